@@ -471,7 +471,14 @@ impl<A: Allocator> Blocks<A> {
             (words_at self.old.slots number) fault)) }
     {
         let span = *self.spans.value(number);
-        write_lent(&mut self.words, &self.spans, span.place, span.len, lent, rewriter)
+        write_lent(
+            &mut self.words,
+            &self.spans,
+            span.place,
+            span.len,
+            lent,
+            rewriter,
+        )
     }
 
     /// Takes the block of a number away, and answers what it had.

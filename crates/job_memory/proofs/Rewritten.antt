@@ -1,8 +1,8 @@
 -- A block that is written over, of which the last reference goes with others.
-use Rattle.std.proofs.Common.{◌≡◌, ◌≢◌, ℕ, ℤ, ◌+◌, ◌-◌, ◌<◌, ◌≤◌, Bool, cond, leb, List, [], ◌∷◌, length, set, sym, ap}
+use Rattle.std.proofs.Common.{◌≡◌, ◌≢◌, ℕ, ℤ, ◌+◌, ◌-◌, ◌<◌, ◌≤◌, Bool, cond, List, [], ◌∷◌, length, set, sym, ap}
 use Rattle.std.proofs.Common.{◌∙◌, subst, inl, inr, arith}
 use Rattle.std.proofs.lemmas.Bool.{cases_eq, cases_lt, le-leb, lt-leb}
-use Rattle.std.proofs.lemmas.List.{set-set, set_comm, set-get_or, get_or-set_same, get_or-set_other, get_or_past}
+use Rattle.std.proofs.lemmas.List.{set-set, set_comm, set-get_or, get_or-set_same, get_or_past}
 use Rattle.std.proofs.lemmas.List.{length-set}
 use Rattle.refcounts.specs.SharedState.{Slot, SharedState, empty_slot, slot_at, IsLive, with_slot, new_slot}
 use Rattle.refcounts.specs.SharedState.{raised_slot, lowered_slot, state_after_share, state_after_release}

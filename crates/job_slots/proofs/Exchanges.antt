@@ -25,17 +25,17 @@ use Rattle.job_slots.proofs.SeenSlots.{own_slot, placed_there, none_here}
 -- ---- what a release lowers
 
 -- the words and the blocks are no more, and the numbers are the same
-record IsLower (job : ℕ) (old new : JobBlocks) : Type 0 where
-  held : held_words job new ≤ held_words job old
-  count : block_count new.memory ≤ block_count old.memory
-  numbers : length new.memory.slots ≡ length old.memory.slots
+pub record IsLower (job : ℕ) (old new : JobBlocks) : Type 0 where
+  pub held : held_words job new ≤ held_words job old
+  pub count : block_count new.memory ≤ block_count old.memory
+  pub numbers : length new.memory.slots ≡ length old.memory.slots
 
 -- the laws of what is released
 pub record ReleaseLaws : Type 0 where
   pub only_free : ReleasesOnlyFree
   pub only_their_job : ReleasesChangeOnlyTheirJob
 
-lower : ReleaseLaws → (job : ℕ) (blocks : JobBlocks) (ids : List ℕ) → AreOwn job blocks ids →
+pub lower : ReleaseLaws → (job : ℕ) (blocks : JobBlocks) (ids : List ℕ) → AreOwn job blocks ids →
     IsLower job blocks (with_releases ids blocks)
 lower laws job blocks ids own =
     let free = laws.only_free blocks.memory ids (own_named job blocks.memory ids own) in

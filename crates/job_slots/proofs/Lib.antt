@@ -18,6 +18,7 @@ mod Moves
 mod NoOperands
 mod OneGo
 mod Operands
+mod Overlaid
 mod Pictures
 mod Placed
 mod Readings

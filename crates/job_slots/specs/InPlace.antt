@@ -1,5 +1,6 @@
 -- When an instruction's result can be computed where it is placed.
-use Rattle.std.specs.Prelude.{◌≡◌, ℕ, ℤ, ◌+◌, ◌≤◌, Bool, true, false, List, length, map, Some, None}
+use Rattle.std.specs.Prelude.{◌≡◌, ℕ, ℤ, ◌+◌, ◌≤◌, Bool, true, false, List, [], ◌∷◌, length, map, slice_index_or}
+use Rattle.std.specs.Prelude.{Some, None}
 use Rattle.vcode_base.specs.declared.op.Op.{Op}
 use Rattle.vcode_base.specs.declared.op.Op.TheVariants.{Const}
 use Rattle.vcode_base.specs.declared.rule.Rule.{Rule}
@@ -7,8 +8,8 @@ use Rattle.vcode_base.specs.declared.rule.Rule.TheVariants.{First, Second}
 use Rattle.vcode_base.specs.Kinds.{HaveKinds, source_kinds, result_kinds}
 use Rattle.vcode_base.specs.Meaning.{shape, need, value_fault, result_of}
 use Rattle.refcounts.specs.Making.{words_at}
-use Rattle.refcounts.specs.SharedState.{AreLive}
-use Rattle.job_memory.specs.JobBlocks.{JobBlocks, held_words}
+use Rattle.refcounts.specs.SharedState.{slot_in}
+use Rattle.job_memory.specs.JobBlocks.{JobBlocks, AreOwn, ChangesOnlyOf, held_words, own_slots}
 use Rattle.job_steps.specs.Motions.{operand_count}
 use Rattle.job_steps.specs.States.{Task}
 use Rattle.job_steps.specs.Steps.{flag_of}
@@ -19,7 +20,7 @@ use Rattle.job_steps.specs.Events.{next_standing}
 use Rattle.job_steps.specs.Standings.{Live, Ended}
 use Rattle.job_slots.specs.declared.in_place.Placement.{Placement}
 use Rattle.job_slots.specs.Answers.{line_at, question_at}
-use Rattle.job_slots.specs.Commits.{taken_ids}
+use Rattle.job_slots.specs.Commits.{IsExchanged, blocks_beside, taken_ids}
 use Rattle.job_slots.specs.Slots.{SlotState, standing_of}
 
 abbrev pub is_constant : Op → Bool
@@ -41,6 +42,32 @@ pub record IsResult (op : Op) (sources : List (List ℤ)) (words : List ℤ) : T
 abbrev pub operands_in : JobBlocks → Op → List ℕ → List (List ℤ)
 operands_in blocks op cells = map (words_at blocks.memory) (taken_ids op cells)
 
+-- the number that counts under a rule
+abbrev pub words_by : Rule → (under_first under_second : ℕ) → ℕ
+words_by First under_first under_second = under_first
+words_by Second under_first under_second = under_second
+
+-- the operands of a DPERMUTE, from the four others and its default, which is the third
+abbrev pub with_third : {X : Type 0} → X → List X → X → List X
+with_third none others default =
+    slice_index_or others 0 none ∷ slice_index_or others 1 none ∷ default ∷ slice_index_or others 2 none
+    ∷ slice_index_or others 3 none ∷ []
+
+-- A block has the result, in the place of the operands, whichever form the exchange has. Its words and those that are
+-- held count by the rule.
+pub record IsComputed (rule : Rule) (job : ℕ) (op : Op) (taken : List ℕ) (id : ℕ) (old new : JobBlocks) : Type 0 where
+  pub form : Rule
+  pub words : List ℤ
+  pub result : IsResult op (map (words_at old.memory) taken) words
+  pub exchanged : IsExchanged form job taken id words old new
+  pub counted : words_by rule (held_words job old + length words) (held_words job new)
+      ≡ held_words job (blocks_beside rule taken old) + length words
+
+-- as many references name each of the job's blocks as before, and no other job's blocks changed
+pub record KeepsReferences (job : ℕ) (old new : JobBlocks) : Type 0 where
+  pub counts : (id : ℕ) → (slot_in (own_slots job new) id).count ≡ (slot_in (own_slots job old) id).count
+  pub others : ChangesOnlyOf job old new
+
 -- the instruction is the next of the job, its operands are on the stack, and the job has room for its one result of so
 -- many words beside them
 pub record IsPlaceable (task : Task) (job : ℕ) (blocks : JobBlocks) (t : TrackState ℕ) (p : Placement) : Type 0 where
@@ -50,7 +77,7 @@ pub record IsPlaceable (task : Task) (job : ℕ) (blocks : JobBlocks) (t : Track
   pub can : CanCompute p.op (operands_in blocks p.op t.cells) p.len
   pub one : length (result_kinds p.op) ≡ 1
   pub deep : operand_count p.op ≤ length t.cells
-  pub live : AreLive blocks.memory (taken_ids p.op t.cells)
+  pub own : AreOwn job blocks (taken_ids p.op t.cells)
   pub room : held_words job blocks + p.len ≤ task.limits.words
 
 -- the instruction is executed, and the job goes on or has returned
@@ -59,8 +86,3 @@ pub record Carries (job : ℕ) (task : Task) (old new : SlotState) (on : Bool) :
       next_standing (event.Finish job) task (standing_of old) ≡ Some (Live (old.trace.executed + 1))
   pub returned : on ≡ false → next_standing (event.Finish job) task (standing_of old) ≡ Some Ended
   pub standing : Some (standing_of new) ≡ next_standing (event.Finish job) task (standing_of old)
-
--- the number that counts under a rule
-abbrev pub words_by : Rule → (under_first under_second : ℕ) → ℕ
-words_by First under_first under_second = under_first
-words_by Second under_first under_second = under_second

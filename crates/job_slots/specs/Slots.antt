@@ -15,7 +15,7 @@ use Rattle.job_steps.specs.Frames.{IsSettled}
 use Rattle.job_steps.specs.Tracks.{TrackState, IsFirst, IsAt, IsThrough, functions_of}
 use Rattle.job_slots.specs.declared.status.Status.{Status}
 use Rattle.job_slots.specs.declared.status.Status.TheVariants as status
-use Rattle.job_slots.specs.Holdings.{HoldStack, HoldNothing}
+use Rattle.job_slots.specs.Holdings.{HoldStack, HoldSomeStack, HoldNothing}
 
 -- the place of a job in its run, and how it ended, once that is known
 pub record SlotState : Type 0 where
@@ -149,6 +149,14 @@ IsActive _ = ⊥
 -- how the job ended, if it is collected
 abbrev pub told_outcome : SlotState → Option (Outcome (List Vector))
 told_outcome slot = told_by slot.status slot.outcome
+
+-- a job that runs has its grant, and its cells hold its blocks, whatever words these have
+pub record MayEnd (number : ℕ) (blocks : JobBlocks) (task : Task) (slot : SlotState) : Type 0 where
+  pub is_job : IsJob blocks number
+  pub verified : IsVerified task
+  pub limits : slot.trace.limits ≡ task.limits
+  pub grant : grant_of blocks number ≡ Some task.limits.words
+  pub holds : HoldSomeStack (own_slots number blocks) slot.trace.cells
 
 abbrev pub recalled_status : Status → Status
 recalled_status status.InFlight = status.Live

@@ -1,30 +1,40 @@
 //! Computing a result where it is placed.
 
-ghost use Rattle.std.specs.Prelude.{◌≡◌, ◌+◌, ◌<◌, ◌≤◌, ℤ, List, length, false, IfSome, IfErr, OnOk, OnErr, Some};
+ghost use Rattle.std.specs.Prelude.{◌≡◌, ◌+◌, ◌<◌, ◌≤◌, ℤ, List, length, map, false, IfSome, IfOk, IfErr, OnOk};
+ghost use Rattle.std.specs.Prelude.{OnErr, Some};
 ghost use Rattle.vcode_base.specs.declared.op.Op.TheVariants.{Return};
+ghost use Rattle.vcode_base.specs.declared.op.Op.TheVariants.{Segmented as SegmentedOp};
+ghost use Rattle.vcode_base.specs.declared.op.Segmented.TheVariants.{DefaultPermute};
 ghost use Rattle.vcode_base.specs.Meaning.{value_fault};
-ghost use Rattle.refcounts.specs.SharedState.{block_count};
-ghost use Rattle.job_memory.specs.JobBlocks.{IsJob, ChangesOnlyOf, grant_of, own_slots};
+ghost use Rattle.block_memory.specs.declared.writer.TheConstants.{MOST_LENT};
+ghost use Rattle.refcounts.specs.Making.{words_at};
+ghost use Rattle.refcounts.specs.SharedState.{block_count, slot_at};
+ghost use Rattle.job_memory.specs.JobBlocks.{AreOwn, IsJob, HasGrant, ChangesOnlyOf, grant_of, own_slots, words_of};
+ghost use Rattle.job_memory.specs.JobBlocks.{held_words};
 ghost use Rattle.job_steps.specs.EventLaws.{IsVerified};
 ghost use Rattle.job_steps.specs.Runs.{state_after};
 ghost use Rattle.job_steps.specs.States.{ruled};
-ghost use Rattle.job_slots.specs.InPlace.{IsPlaceable, is_constant, operands_in, words_by};
+ghost use Rattle.job_slots.specs.InPlace.{CanCompute, IsComputed, IsPlaceable, KeepsReferences, is_constant};
+ghost use Rattle.job_slots.specs.InPlace.{operands_in, with_third, words_by};
 ghost use Rattle.job_slots.specs.Needs.{IsReady};
 ghost use Rattle.job_slots.specs.Slots.{IsAfter, IsFlyingSlot, IsRunningSlot};
 
 use crate::commit::top;
-use crate::execution::steps_execute;
+use crate::execution::{held_is_counted, steps_execute};
 use crate::ticket::Ready;
 use crate::turn::Turn;
-use block_memory::{BlockId, Writer};
+use block_memory::{BlockId, Rewriter, Writer};
 use job_memory::JobMemory;
-use job_memory::laws::releases_change_only_their_job;
+use job_memory::laws::{
+    blocks_change_only_their_job, changes_join, releases_change_only_their_job,
+};
 use job_steps::laws::steps_can_begin;
 use job_steps::{Job, Track, fill};
 use refcounts::laws::releases_only_free;
+use segment_ops::overlay;
 use std::alloc::Allocator;
 use vcode_base::laws::results_have_needed_lengths;
-use vcode_base::{DataFault, Op, Rule};
+use vcode_base::{DataFault, Op, Rule, Scalar, Segmented};
 
 /// A result of fewer words is computed on the desk: to copy it takes less time than to look for the operands once more.
 const LEAST: usize = 512;
@@ -61,6 +71,38 @@ impl Writer for Computation {
 
     fn write(&self, lent: &[&[i64]], block: &mut [i64]) -> Result<(), DataFault> {
         fill(self.op, lent, block, &mut [])
+    }
+}
+
+/// The work of a `DPERMUTE` that writes over its default, which goes.
+#[derive(Drop)]
+struct Overlay {
+    scalar: Scalar,
+}
+
+impl Rewriter for Overlay {
+    ghost use Rattle.std.specs.Prelude.{◌≡◌, [], Some, length};
+    ghost use Rattle.vcode_base.specs.declared.op.Op.TheVariants.{Segmented as SegmentedOp};
+    ghost use Rattle.vcode_base.specs.declared.op.Segmented.TheVariants.{DefaultPermute};
+    ghost use Rattle.vcode_base.specs.Meaning.{value_fault};
+    ghost use Rattle.job_slots.specs.InPlace.{CanCompute, IsResult, with_third};
+
+    type Fault = DataFault;
+
+    ghost can_rewrite = { λ o others words. (length others ≡ 4)
+        × CanCompute (SegmentedOp (DefaultPermute o.scalar)) (with_third [] others words) (length words) };
+
+    ghost rewrites = { λ o others words. IsResult (SegmentedOp (DefaultPermute o.scalar)) (with_third [] others words) };
+
+    ghost faults_over = { λ o others words fault.
+        value_fault (SegmentedOp (DefaultPermute o.scalar)) (with_third [] others words) ≡ Some fault };
+
+    #[tactic(auto, unfolding(vcode_base::specs::Meaning::shape, vcode_base::specs::Meaning::need, vcode_base::specs::Meaning::value_fault, vcode_base::specs::Meaning::result_of))]
+    fn rewrite(&self, lent: &[&[i64]], block: &mut [i64]) -> Result<(), DataFault> {
+        match overlay(lent[0], lent[1], lent[2], lent[3], block) {
+            Ok(()) => Ok(()),
+            Err(fault) => Err(fault),
+        }
     }
 }
 
@@ -105,6 +147,9 @@ fn placement_of_long<A: Allocator>(
     ensures { IfSome result (IsPlaceable (ruled turn.rule job.now) turn.number blocks.now track.now) }
 {
     steps_can_begin::<BlockId>();
+    held_is_counted();
+    // By its type a memory has no block that no reference names.
+    let _used = blocks.used();
     let Ready {
         op,
         line,
@@ -136,7 +181,7 @@ fn placement_of_long<A: Allocator>(
 ///
 /// # Errors
 ///
-/// The fault that the values of the operands have. Nothing changes then.
+/// The fault that the values of the operands have. The cells hold the references then that they held before.
 pub(crate) fn execute_in_place<A: Allocator>(
     turn: Turn,
     job: &Job<A>,
@@ -156,24 +201,123 @@ pub(crate) fn execute_in_place<A: Allocator>(
     ensures others { OnOk result (ChangesOnlyOf turn.number blocks.old blocks.new) }
     ensures same_grant { grant_of blocks.new turn.number ≡ grant_of blocks.old turn.number }
     ensures goes_on { OnOk result ((placement.op ≡ Return → ⊥) → 0 < length track.new.frames) }
-    ensures unchanged { OnErr result ((track.new ≡ track.old) × (blocks.new ≡ blocks.old)) }
+    ensures unchanged { OnErr result (track.new ≡ track.old) }
+    ensures kept { OnErr result (KeepsReferences turn.number blocks.old blocks.new) }
     ensures fault { IfErr result (λ fault.
         value_fault placement.op (operands_in blocks.old placement.op track.old.cells) ≡ Some fault) }
 {
     let Placement { op, len, flag, .. } = placement;
     steps_execute();
     results_have_needed_lengths();
-    releases_only_free();
-    releases_change_only_their_job();
     let _used = blocks.used();
     let held = blocks.held(turn.number);
     let operands = top(track.cells(), op.operand_kinds().len());
-    match blocks.place_with(turn.number, len, operands, &Computation { op }) {
+    match compute(turn, op, len, operands, blocks) {
         Ok(id) => {
-            blocks.release_all(turn.number, operands);
             let words = words_by(turn.rule, held + len, blocks.held(turn.number));
             track.advance(job, op, flag, &[id], words);
             Ok(())
+        }
+        Err(fault) => Err(fault),
+    }
+}
+
+/// The block of an instruction's one result, in the place of its operands, which go. A `DPERMUTE` writes over its
+/// default if nothing else names that.
+///
+/// # Errors
+///
+/// The fault that the values of the operands have. No reference goes then.
+fn compute<A: Allocator>(
+    turn: Turn,
+    op: Op,
+    len: usize,
+    operands: &[BlockId],
+    blocks: &mut JobMemory<A>,
+) -> Result<BlockId, DataFault>
+    requires has_grant { HasGrant blocks.old turn.number }
+    requires numbers { block_count blocks.old.memory < length blocks.old.memory.slots }
+    requires room { held_words turn.number blocks.old + len ≤ words_of (grant_of blocks.old turn.number) }
+    requires few { length operands.now ≤ MOST_LENT }
+    requires own { AreOwn turn.number blocks.old operands.now }
+    requires can { CanCompute op (map (words_at blocks.old.memory) operands.now) len }
+    ensures computed { IfOk result (λ id. IsComputed turn.rule turn.number op operands.now id blocks.old blocks.new) }
+    ensures fault { IfErr result (λ fault. value_fault op (map (words_at blocks.old.memory) operands.now)
+        ≡ Some fault) }
+    ensures kept { OnErr result (KeepsReferences turn.number blocks.old blocks.new) }
+    ensures grants { blocks.new.grants ≡ blocks.old.grants }
+{
+    if let Op::Segmented(Segmented::DefaultPermute(scalar)) = op {
+        if let [elements, indices, default, source, target] = operands {
+            if blocks.is_single(*default) {
+                let others = [*elements, *indices, *source, *target];
+                return compute_over(turn, scalar, operands, *default, others, blocks);
+            }
+        }
+    }
+    compute_anew(turn, op, len, operands, blocks)
+}
+
+/// The same for a `DPERMUTE` whose default is named by nothing else.
+fn compute_over<A: Allocator>(
+    turn: Turn,
+    scalar: Scalar,
+    operands: &[BlockId],
+    default: BlockId,
+    others: [BlockId; 4],
+    blocks: &mut JobMemory<A>,
+) -> Result<BlockId, DataFault>
+    requires has_grant { HasGrant blocks.old turn.number }
+    requires own { AreOwn turn.number blocks.old operands.now }
+    requires single { (slot_at blocks.old.memory default).count ≡ 1 }
+    requires four { length others ≡ 4 }
+    requires are { operands.now ≡ with_third 0 others default }
+    requires can { CanCompute (SegmentedOp (DefaultPermute scalar)) (map (words_at blocks.old.memory) operands.now)
+        (length (words_at blocks.old.memory default)) }
+    ensures computed { IfOk result (λ id. IsComputed turn.rule turn.number (SegmentedOp (DefaultPermute scalar))
+        operands.now id blocks.old blocks.new) }
+    ensures fault { IfErr result (λ fault. value_fault (SegmentedOp (DefaultPermute scalar))
+        (map (words_at blocks.old.memory) operands.now) ≡ Some fault) }
+    ensures kept { OnErr result (KeepsReferences turn.number blocks.old blocks.new) }
+    ensures grants { blocks.new.grants ≡ blocks.old.grants }
+{
+    releases_only_free();
+    releases_change_only_their_job();
+    blocks_change_only_their_job();
+    changes_join();
+    let work = Overlay { scalar };
+    match blocks.exchange_with(turn.number, operands, default, &others, &work) {
+        Ok(()) => Ok(default),
+        Err(fault) => Err(fault),
+    }
+}
+
+/// The same in a new block.
+fn compute_anew<A: Allocator>(
+    turn: Turn,
+    op: Op,
+    len: usize,
+    operands: &[BlockId],
+    blocks: &mut JobMemory<A>,
+) -> Result<BlockId, DataFault>
+    requires has_grant { HasGrant blocks.old turn.number }
+    requires numbers { block_count blocks.old.memory < length blocks.old.memory.slots }
+    requires room { held_words turn.number blocks.old + len ≤ words_of (grant_of blocks.old turn.number) }
+    requires few { length operands.now ≤ MOST_LENT }
+    requires own { AreOwn turn.number blocks.old operands.now }
+    requires can { CanCompute op (map (words_at blocks.old.memory) operands.now) len }
+    ensures computed { IfOk result (λ id. IsComputed turn.rule turn.number op operands.now id blocks.old blocks.new) }
+    ensures fault { IfErr result (λ fault. value_fault op (map (words_at blocks.old.memory) operands.now)
+        ≡ Some fault) }
+    ensures unchanged { OnErr result (blocks.new ≡ blocks.old) }
+    ensures grants { blocks.new.grants ≡ blocks.old.grants }
+{
+    releases_only_free();
+    releases_change_only_their_job();
+    match blocks.place_with(turn.number, len, operands, &Computation { op }) {
+        Ok(id) => {
+            blocks.release_all(turn.number, operands);
+            Ok(id)
         }
         Err(fault) => Err(fault),
     }

@@ -25,7 +25,7 @@ ghost use Rattle.job_slots.specs.declared.answer.Stepped.TheVariants as stepped;
 ghost use Rattle.job_slots.specs.InPlace.{Carries, IsPlaceable, is_constant, operands_in};
 ghost use Rattle.job_slots.specs.Holdings.{HoldSomeStack, HoldNothing};
 ghost use Rattle.job_slots.specs.Slots.{Shows, Leaves, IsActive, IsNewSlot, IsReturned, standing_of, told_outcome};
-ghost use Rattle.job_slots.specs.Slots.{HasNumbersOnRun, recalled_slot};
+ghost use Rattle.job_slots.specs.Slots.{HasNumbersOnRun, MayEnd, recalled_slot};
 ghost use Rattle.job_slots.specs.Answers.{Begins, IsPutOff, Finishes, Fits, IsEnding, is_ended, is_in_flight};
 ghost use Rattle.job_slots.specs.Answers.{HasRun, is_live, or_same, question_at, standing_after_begun};
 ghost use Rattle.job_slots.specs.Answers.{standing_after_finished};
@@ -677,6 +677,7 @@ impl<A: Allocator> Slot<A> {
     {
         end_is_own();
         others_are_ready();
+        changes_join();
         self.status = Status::InFlight;
         match self.carry_out_in_place(turn, job, blocks, placement) {
             Ok(goes_on) => {
@@ -688,7 +689,8 @@ impl<A: Allocator> Slot<A> {
             }
             Err(fault) => {
                 let ending = Outcome::Fault(fault, placement.line);
-                self.end_by_step(turn, job, blocks, ending)
+                self.end(turn, job, blocks, ending);
+                Stepped::Ended
             }
         }
     }
@@ -698,7 +700,7 @@ impl<A: Allocator> Slot<A> {
     ///
     /// # Errors
     ///
-    /// The fault that the values of the operands have. Nothing changes then.
+    /// The fault that the values of the operands have. The job can end by it then.
     fn carry_out_in_place(
         &mut self,
         turn: Turn,
@@ -712,8 +714,9 @@ impl<A: Allocator> Slot<A> {
         requires numbers { block_count blocks.old.memory + 2 ≤ length blocks.old.memory.slots }
         ensures carried { IfOk result (Carries turn.number (ruled turn.rule job.now) self.old self.new) }
         ensures shows { OnOk result (Shows turn.number blocks.new (ruled turn.rule job.now) self.new) }
-        ensures others { OnOk result (ChangesOnlyOf turn.number blocks.old blocks.new) }
-        ensures unchanged { OnErr result ((self.new ≡ self.old) × (blocks.new ≡ blocks.old)) }
+        ensures others { ChangesOnlyOf turn.number blocks.old blocks.new }
+        ensures unchanged { OnErr result (self.new ≡ self.old) }
+        ensures may_end { OnErr result (MayEnd turn.number blocks.new (ruled turn.rule job.now) self.new) }
         ensures fault { IfErr result (λ fault.
             value_fault placement.op (operands_in blocks.old placement.op self.old.trace.cells) ≡ Some fault) }
     {
@@ -932,8 +935,7 @@ impl<A: Allocator> Slot<A> {
         blocks: &mut JobMemory<A>,
         ending: Outcome<Values<A>>,
     )
-        requires shows { Shows turn.number blocks.old (ruled turn.rule job.now) self.old }
-        requires active { IsActive self.old.status }
+        requires may_end { MayEnd turn.number blocks.old (ruled turn.rule job.now) self.old }
         requires ending { IsEnding (ruled turn.rule job.now) self.old.trace.executed self.old.trace.peak ending }
         ensures shows { Shows turn.number blocks.new (ruled turn.rule job.now) self.new }
         ensures others { ChangesOnlyOf turn.number blocks.old blocks.new }

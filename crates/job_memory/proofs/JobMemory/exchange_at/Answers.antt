@@ -1,7 +1,7 @@
-use Rattle.std.proofs.Common.{◌≡◌, ◌+◌, ◌<◌, ◌≤◌, length, sym, ap, ◌∙◌, subst, arith}
-use Rattle.refcounts.specs.SharedState.{SharedState, slot_at, with_slot, new_slot, state_after_share}
+use Rattle.std.proofs.Common.{length, sym, ap, ◌∙◌, arith}
+use Rattle.refcounts.specs.SharedState.{SharedState, with_slot, new_slot, state_after_share}
 use Rattle.refcounts.specs.SharedState.{state_after_releases}
-use Rattle.job_memory.specs.JobBlocks.{JobBlocks, HasGrant, AreOwn, with_memory, with_block}
+use Rattle.job_memory.specs.JobBlocks.{JobBlocks, with_memory}
 use Rattle.job_memory.proofs.Rewritten.{IsTurnedOver, turned_over, releases_shared}
 use Rattle.job_memory.proofs.JobMemory.exchange_at.Given.{Over}
 use Rattle.job_memory.proofs.JobMemory.exchange_at.Goals as goal

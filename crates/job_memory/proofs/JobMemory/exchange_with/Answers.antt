@@ -1,5 +1,5 @@
-use Rattle.std.proofs.Common.{◌≡◌, ◌∙◌, ◌+◌, ◌<◌, ◌≤◌, ℕ, length, sym, ap, arith}
-use Rattle.job_memory.specs.JobBlocks.{JobBlocks, HasGrant, AreOwn, with_memory, with_block}
+use Rattle.std.proofs.Common.{◌∙◌, ℕ, ap, arith}
+use Rattle.job_memory.specs.JobBlocks.{with_block}
 use Rattle.job_memory.proofs.Rewritten.{IsHandedOver, IsTurnedOver, handed_over, owner_is, turned_over}
 use Rattle.job_memory.proofs.JobMemory.exchange_with.Given.{Over}
 use Rattle.job_memory.proofs.JobMemory.exchange_with.Goals as goal

@@ -1,9 +1,8 @@
-use Rattle.std.proofs.Common.{◌≡◌, ◌<◌, length, sym, ap, ◌∙◌, arith}
-use Rattle.refcounts.specs.SharedState.{Slot, SharedState, IsLive, slot_at, with_slot, new_slot}
+use Rattle.std.proofs.Common.{◌≡◌, length, sym, ap, ◌∙◌, arith}
+use Rattle.refcounts.specs.SharedState.{Slot, SharedState, IsLive, slot_at, new_slot}
 use Rattle.job_memory.specs.JobBlocks.{JobBlocks, with_block}
 use Rattle.job_memory.proofs.Slots.{live_within, seen_rewritten}
 use Rattle.job_memory.proofs.Booked.{booked_slot}
-use Rattle.job_memory.proofs.JobMemory.rewrite.Given.{Over}
 use Rattle.job_memory.proofs.JobMemory.rewrite.Goals as goal
 
 pub rewrite-requires-clause-single : goal.rewrite-requires-clause-single

@@ -1,7 +1,7 @@
-use Rattle.std.proofs.Common.{◌≡◌, ◌<◌, length, map, sym, ap, ◌∙◌, subst, arith}
+use Rattle.std.proofs.Common.{◌≡◌, length, map, sym, ap, ◌∙◌, subst, arith}
 use Rattle.std.specs.Prelude.{MatchResult}
 use Rattle.refcounts.specs.Making.{words_at}
-use Rattle.refcounts.specs.SharedState.{Slot, SharedState, AreLive, IsLive, slot_at, with_slot, new_slot}
+use Rattle.refcounts.specs.SharedState.{Slot, SharedState, AreLive, IsLive, slot_at, new_slot}
 use Rattle.job_memory.specs.JobBlocks.{JobBlocks, with_block}
 use Rattle.job_memory.proofs.Slots.{live_within, seen_rewritten}
 use Rattle.job_memory.proofs.Booked.{booked_slot}

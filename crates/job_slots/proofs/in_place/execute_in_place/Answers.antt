@@ -4,26 +4,19 @@ use Rattle.std.proofs.lemmas.List.{length-reverse, reverse-reverse}
 use Rattle.vcode_base.specs.declared.kind.Kind.{Kind}
 use Rattle.vcode_base.specs.Meaning.{value_fault}
 use Rattle.refcounts.specs.Making.{words_at}
-use Rattle.refcounts.specs.SharedState.{AreLive}
 use Rattle.job_memory.specs.JobBlocks.{AreOwn, held_words, words_of}
 use Rattle.job_steps.specs.Motions.{operand_count, top_entries}
 use Rattle.job_steps.specs.States.{ruled}
 use Rattle.job_steps.specs.Tracks.{Advances}
 use Rattle.job_slots.specs.Commits.{held_under, taken_ids}
 use Rattle.job_slots.specs.Executions.{CanExecute, IsExecuted}
-use Rattle.job_slots.specs.InPlace.{CanCompute, IsResult, words_by}
-use Rattle.job_slots.proofs.Exchanges.{HasReplaced, own_still, placed_then_released}
+use Rattle.job_slots.specs.InPlace.{CanCompute, IsComputed, words_by}
 use Rattle.job_slots.proofs.Executed.{executed_past}
-use Rattle.job_slots.proofs.InPlace.{answered}
+use Rattle.job_slots.proofs.InPlace.{answered, computed_long}
 use Rattle.job_slots.proofs.Operands.{few_operands}
 use Rattle.job_slots.proofs.in_place.execute_in_place.Given.{Over}
 use Rattle.job_slots.proofs.in_place.execute_in_place.Goals as goal
-use Rattle.job_slots.proofs.in_place.execute_in_place.Goals.{
-  After-top-operands,
-  After-release_all,
-  After-advance,
-  In-Ok,
-}
+use Rattle.job_slots.proofs.in_place.execute_in_place.Goals.{After-top-operands, After-advance, In-Ok}
 
 operands_are : (g : Over) (c : goal.After-top-operands g) →
     c.top-operands.result.now ≡ taken_ids c.args.placement.op c.args.track.now.cells
@@ -34,12 +27,12 @@ operands_are g c =
     ∙ ap (λ (ids : List ℕ). top_entries (operand_count c.args.placement.op) ids)
     (reverse-reverse c.args.track.now.cells)))
 
-pub place_with-requires-clause-room : goal.place_with-requires-clause-room
-place_with-requires-clause-room g c = omega (arith, c.requires.placeable.room, ap words_of c.requires.grant)
+pub compute-requires-clause-room : goal.compute-requires-clause-room
+compute-requires-clause-room g c = omega (arith, c.requires.placeable.room, ap words_of c.requires.grant)
 
-pub place_with-requires-clause-few : goal.place_with-requires-clause-few
-place_with-requires-clause-few g c =
-    let at = goal.at.place_with-requires-clause-few g c in
+pub compute-requires-clause-few : goal.compute-requires-clause-few
+compute-requires-clause-few g c =
+    let at = goal.at.compute-requires-clause-few g c in
     let top = take (operand_count c.args.placement.op) c.args.track.now.cells in
     omega (
       arith,
@@ -49,65 +42,36 @@ place_with-requires-clause-few g c =
       few_operands c.args.placement.op,
     )
 
-pub place_with-requires-clause-live : goal.place_with-requires-clause-live
-place_with-requires-clause-live g c =
-    subst (λ (ids : List ℕ). AreLive c.args.blocks.now.memory ids)
-    (sym (operands_are g (goal.at.place_with-requires-clause-live g c).After-top-operands)) c.requires.placeable.live
+pub compute-requires-clause-own : goal.compute-requires-clause-own
+compute-requires-clause-own g c =
+    subst (λ (ids : List ℕ). AreOwn c.args.turn.number c.args.blocks.now ids)
+    (sym (operands_are g (goal.at.compute-requires-clause-own g c).After-top-operands)) c.requires.placeable.own
 
-pub place_with-requires-clause-can : goal.place_with-requires-clause-can
-place_with-requires-clause-can g c =
+pub compute-requires-clause-can : goal.compute-requires-clause-can
+compute-requires-clause-can g c =
     subst (λ (ids : List ℕ). CanCompute c.args.placement.op (map (words_at c.args.blocks.now.memory) ids)
     c.args.placement.len)
-    (sym (operands_are g (goal.at.place_with-requires-clause-can g c).After-top-operands)) c.requires.placeable.can
+    (sym (operands_are g (goal.at.compute-requires-clause-can g c).After-top-operands)) c.requires.placeable.can
 
--- the words that were written are the result
-result_is : (g : Over) (c : In-Ok g) →
-    IsResult c.args.placement.op (map (words_at c.args.blocks.now.memory)
-    (taken_ids c.args.placement.op c.args.track.now.cells))
-    c.in-Ok.ensures.placed.words
-result_is g c =
-    subst (λ (ids : List ℕ). IsResult c.args.placement.op (map (words_at c.args.blocks.now.memory) ids)
-    c.in-Ok.ensures.placed.words) (operands_are g (goal.at.In-Ok g c).After-top-operands) c.in-Ok.ensures.placed.so
+-- the result is in a block, in the place of the operands
+computed : (g : Over) (c : In-Ok g) →
+    IsComputed c.args.turn.rule c.args.turn.number c.args.placement.op
+    (taken_ids c.args.placement.op c.args.track.now.cells) c.in-Ok.id c.args.blocks.now c.compute.new.blocks
+computed g c =
+    subst (λ (ids : List ℕ). IsComputed c.args.turn.rule c.args.turn.number c.args.placement.op ids c.in-Ok.id
+    c.args.blocks.now c.compute.new.blocks) (operands_are g (goal.at.In-Ok g c).After-top-operands)
+    c.in-Ok.ensures.computed
 
 can : (g : Over) (c : In-Ok g) →
     CanExecute c.args.turn.number c.args.blocks.now (ruled c.args.turn.rule c.args.job.now) c.args.track.now
-    c.args.placement.op
-    c.args.placement.flag c.in-Ok.ensures.placed.words []
+    c.args.placement.op c.args.placement.flag (computed g c).words []
 can g c =
     c.steps_execute.ensures c.args.turn.number c.args.blocks.now (ruled c.args.turn.rule c.args.job.now)
-    c.args.track.now
-    c.args.placement.op c.args.placement.flag c.in-Ok.ensures.placed.words [] c.requires.flying c.requires.verified
-    c.used-used.ensures.tidy
+    c.args.track.now c.args.placement.op c.args.placement.flag (computed g c).words [] c.requires.flying
+    c.requires.verified c.used-used.ensures.tidy
     (answered c.results_have_needed_lengths.ensures (ruled c.args.turn.rule c.args.job.now) c.args.turn.number
-    c.args.blocks.now
-    c.args.track.now c.args.placement c.requires.placeable c.in-Ok.ensures.placed.words (result_is g c))
-
-pub release_all-requires-clause-own : goal.release_all-requires-clause-own
-release_all-requires-clause-own g c =
-    let at = goal.at.release_all-requires-clause-own g c in
-    let placed = c.in-Ok.ensures.placed in
-    let taken : List ℕ = taken_ids c.args.placement.op c.args.track.now.cells in
-    let still = own_still c.args.turn.number c.args.blocks.now c.place_with.new.self c.in-Ok.id placed.words taken
-    placed.empty
-    placed.placed (can g at.In-Ok).can_settle.own in
-    subst (λ (ids : List ℕ). AreOwn c.args.turn.number c.place_with.new.self ids)
-    (sym (operands_are g at.After-top-operands))
-    still
-
-replaced : (g : Over) (c : goal.After-release_all g) →
-    HasReplaced c.args.turn.rule c.args.turn.number (taken_ids c.args.placement.op c.args.track.now.cells) c.in-Ok.id
-    c.in-Ok.ensures.placed.words c.args.blocks.now c.release_all.new.self
-replaced g c =
-    let at = goal.at.After-release_all g c in
-    let placed = c.in-Ok.ensures.placed in
-    placed_then_released (record {
-      only_free = c.releases_only_free.ensures;
-      only_their_job = c.releases_change_only_their_job.ensures;
-    }) c.args.turn.rule c.args.turn.number (taken_ids c.args.placement.op c.args.track.now.cells)
-    c.top-operands.result.now c.in-Ok.id
-    placed.words c.args.blocks.now c.place_with.new.self c.release_all.new.self placed.in_range placed.empty
-    placed.placed
-    (operands_are g at.After-top-operands) c.release_all.ensures (can g at.In-Ok).can_settle.own
+    c.args.blocks.now c.args.track.now c.args.placement c.requires.placeable (computed g c).words
+    (computed g c).result)
 
 pub overflow_add-held : goal.overflow_add-held
 overflow_add-held g c =
@@ -133,26 +97,27 @@ pub advance-requires-clause-given : goal.advance-requires-clause-given
 advance-requires-clause-given g c = sym c.requires.placeable.one
 
 executed : (g : Over) (c : goal.After-advance g) →
-    IsExecuted c.args.turn.number c.args.blocks.now c.release_all.new.self (ruled c.args.turn.rule c.args.job.now)
+    IsExecuted c.args.turn.number c.args.blocks.now c.compute.new.blocks (ruled c.args.turn.rule c.args.job.now)
     c.args.track.now c.advance.new.self
 executed g c =
     let at = goal.at.After-advance g c in
-    let placed = c.in-Ok.ensures.placed in
+    let here = computed g at.In-Ok in
     let old : ℕ = held_words c.args.turn.number c.args.blocks.now in
-    let new : ℕ = held_words c.args.turn.number c.release_all.new.self in
     let held : ℕ = held_under c.args.turn.rule c.args.turn.number c.args.placement.op c.args.track.now.cells
     c.args.blocks.now in
-    let here = replaced g at.After-release_all in
-    let before : c.held-held.result + c.args.placement.len ≡ old + length placed.words =
-    omega (arith, c.held-held.ensures.value, placed.long) in
-    let words : c.words_by-words.result ≡ held + length placed.words =
+    let long = computed_long c.results_have_needed_lengths.ensures (ruled c.args.turn.rule c.args.job.now)
+    c.args.turn.number c.args.blocks.now c.args.track.now c.args.placement c.requires.placeable here.words
+    here.result in
+    let before : c.held-held.result + c.args.placement.len ≡ old + length here.words =
+    omega (arith, c.held-held.ensures.value, long) in
+    let words : c.words_by-words.result ≡ held + length here.words =
     c.words_by-words.ensures
     ∙ (ap (λ (n : ℕ). words_by c.args.turn.rule n c.held.result) before
-    ∙ (ap (λ (n : ℕ). words_by c.args.turn.rule (old + length placed.words) n) c.held.ensures.value ∙ here.counted)) in
-    let all : c.words_by-words.result ≡ held + length placed.words + 0 = omega (arith, words) in
-    executed_past {form = c.args.turn.rule} (can g at.In-Ok) (record {
+    ∙ (ap (λ (n : ℕ). words_by c.args.turn.rule (old + length here.words) n) c.held.ensures.value ∙ here.counted)) in
+    let all : c.words_by-words.result ≡ held + length here.words + 0 = omega (arith, words) in
+    executed_past {form = here.form} (can g at.In-Ok) (record {
       given = sym c.requires.placeable.one;
-      settled = here.is;
+      settled = here.exchanged;
     }) refl
     (subst (λ (n : ℕ). Advances c.args.job.now.verified c.args.placement.op c.args.placement.flag (c.in-Ok.id ∷ []) n
     c.args.track.now c.advance.new.self) all c.advance.ensures.advances)

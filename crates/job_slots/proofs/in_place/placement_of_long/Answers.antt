@@ -28,7 +28,7 @@ returns g c =
       c.if-limits-saturating_add.false,
       c.args.job.now.limits.words_in_range,
     ) in
-    is_placeable c.steps_can_begin.ensures c.args.turn.number c.args.blocks.now
+    is_placeable c.steps_can_begin.ensures c.held_is_counted.ensures c.args.turn.number c.args.blocks.now
     (ruled c.args.turn.rule c.args.job.now) c.args.track.now c.requires.running c.requires.verified ready.op ready.line
-    sources is.next c.requires.no_list needs.first ready.flag is.kinds
+    sources is.next c.requires.no_list c.used-used.ensures.tidy needs.first ready.flag is.kinds
     (is.can_ask c.args.job.now.limits.words (omega arith)).can.shaped one needed is.flag_is room

@@ -1,5 +1,5 @@
-use Rattle.std.proofs.Common.{◌≡◌, ◌<◌, length, sym, ◌∙◌, ap, arith}
-use Rattle.refcounts.specs.SharedState.{SharedState, IsLive, slot_at, with_slot, new_slot}
+use Rattle.std.proofs.Common.{length, sym, ◌∙◌, ap, arith}
+use Rattle.refcounts.specs.SharedState.{IsLive, with_slot, new_slot}
 use Rattle.refcounts.proofs.States.{named_block, counted-rewrite, state_of-rewrite}
 use Rattle.refcounts.proofs.SharedMemory.rewrite.Goals as goal
 

@@ -1,7 +1,7 @@
-use Rattle.std.proofs.Common.{◌≡◌, ◌<◌, length, map, sym, ◌∙◌, ap, subst, arith}
+use Rattle.std.proofs.Common.{◌≡◌, length, map, sym, ◌∙◌, ap, subst, arith}
 use Rattle.std.specs.Prelude.{MatchResult}
 use Rattle.block_memory.specs.Content.{words_at as words_in}
-use Rattle.refcounts.specs.SharedState.{SharedState, IsLive, slot_at, with_slot, new_slot}
+use Rattle.refcounts.specs.SharedState.{SharedState, IsLive, with_slot, new_slot}
 use Rattle.refcounts.specs.Making.{words_at}
 use Rattle.refcounts.proofs.Slots.{words_is}
 use Rattle.refcounts.proofs.States.{NamedBlock, named_block, counted-rewrite, state_of-rewrite}

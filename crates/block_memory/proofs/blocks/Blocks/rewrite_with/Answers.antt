@@ -1,5 +1,5 @@
-use Rattle.std.proofs.Common.{◌≡◌, ℤ, ◌-◌, List, length, map, take, drop, Some, ap, ◌∙◌, refl, sym, subst, arith}
-use Rattle.std.specs.Prelude.{MatchResult, Option, slice_index_or}
+use Rattle.std.proofs.Common.{◌≡◌, ℤ, ◌-◌, List, length, map, take, drop, ap, ◌∙◌, refl, sym, subst, arith}
+use Rattle.std.specs.Prelude.{MatchResult, slice_index_or}
 use Rattle.block_memory.specs.BlocksInside.{slots_from, covered_in}
 use Rattle.block_memory.specs.Layout.{IsClear, Layout, layout_after_rewrite, words_at}
 use Rattle.block_memory.specs.Writing.{IsApart, span_at, words_in}

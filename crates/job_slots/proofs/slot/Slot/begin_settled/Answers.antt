@@ -2,7 +2,9 @@ use Rattle.std.proofs.Common.{◌≡◌, Some, sym, ◌∙◌, subst, ap}
 use Rattle.job_steps.specs.Standings.{InFlight}
 use Rattle.job_steps.specs.States.{ruled}
 use Rattle.job_slots.specs.Answers.{IsAskedOf, early_end_at}
-use Rattle.job_slots.specs.Slots.{SlotState, Shows}
+use Rattle.job_slots.specs.declared.status.Status.{Status}
+use Rattle.job_slots.specs.Slots.{SlotState, IsActive, Shows}
+use Rattle.job_slots.proofs.Overlaid.{may_end}
 use Rattle.job_slots.proofs.Started.{
   flying,
   has_grant,
@@ -30,6 +32,11 @@ halts g c =
     subst (λ (s : SlotState). early_end_at (ruled c.args.turn.rule c.args.job.now) s.trace.executed ≡ Some
     c.in-Err.halted.ending)
     c.self.view_is c.in-Err.ensures.0
+
+pub end-requires-clause-may_end : goal.end-requires-clause-may_end
+end-requires-clause-may_end g c =
+    may_end c.args.turn.number c.args.blocks.now (ruled c.args.turn.rule c.args.job.now) c.args.self.now
+    c.requires.shows (subst (λ (s : Status). IsActive s) (sym c.requires.live) tt)
 
 pub end-requires-clause-ending : goal.end-requires-clause-ending
 end-requires-clause-ending g c =

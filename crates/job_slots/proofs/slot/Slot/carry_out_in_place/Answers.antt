@@ -3,8 +3,10 @@ use Rattle.vcode_base.specs.Meaning.{value_fault}
 use Rattle.job_steps.specs.States.{ruled}
 use Rattle.job_steps.specs.Tracks.{TrackState}
 use Rattle.job_slots.specs.InPlace.{IsPlaceable, operands_in}
-use Rattle.job_slots.specs.Slots.{SlotState}
+use Rattle.job_slots.specs.Slots.{SlotState, IsActive, MayEnd}
+use Rattle.job_slots.specs.declared.status.Status.{Status}
 use Rattle.job_slots.proofs.Committed.{IsCommitted, executed_inside, committed}
+use Rattle.job_slots.proofs.Overlaid.{may_end, may_end_still}
 use Rattle.job_slots.proofs.slot.Slot.carry_out_in_place.Given.{Over}
 use Rattle.job_slots.proofs.slot.Slot.carry_out_in_place.Goals as goal
 use Rattle.job_slots.proofs.slot.Slot.carry_out_in_place.Goals.{After-go_on}
@@ -44,14 +46,34 @@ returns-in-Ok-clause-shows g c = (carried g (goal.at.returns-in-Ok-clause-shows 
 
 pub returns-in-Err-clause-unchanged : goal.returns-in-Err-clause-unchanged
 returns-in-Err-clause-unchanged g c =
-    let same = c.in-Err.ensures.unchanged in (
-      ap (λ (t : TrackState ℕ). let s : SlotState = record {
-        status = c.self.inside.status;
-        trace = t;
-        outcome = c.self.inside.outcome;
-      } in s) same.0 ∙ c.self.view_is,
-      same.1,
-    )
+    ap (λ (t : TrackState ℕ). let s : SlotState = record {
+      status = c.self.inside.status;
+      trace = t;
+      outcome = c.self.inside.outcome;
+    } in s) c.in-Err.ensures.unchanged ∙ c.self.view_is
+
+pub returns-in-Err-clause-may_end : goal.returns-in-Err-clause-may_end
+returns-in-Err-clause-may_end g c =
+    let task = ruled c.args.turn.rule c.args.job.now in
+    let same : record {
+      status = c.self.inside.status;
+      trace = c.execute_in_place.new.track;
+      outcome = c.self.inside.outcome;
+    } ≡ c.args.self.now =
+    ap (λ (t : TrackState ℕ). let s : SlotState = record {
+      status = c.self.inside.status;
+      trace = t;
+      outcome = c.self.inside.outcome;
+    } in s) c.in-Err.ensures.unchanged ∙ c.self.view_is in
+    let before : MayEnd c.args.turn.number c.args.blocks.now task c.args.self.now =
+    may_end c.args.turn.number c.args.blocks.now task c.args.self.now c.requires.shows
+    (subst (λ (s : Status). IsActive s) (sym c.requires.flying) tt) in
+    subst (λ (s : SlotState). MayEnd c.args.turn.number c.execute_in_place.new.blocks task s) (sym same)
+    (may_end_still c.args.turn.number c.args.blocks.now c.execute_in_place.new.blocks task c.args.self.now before
+    c.in-Err.ensures.kept c.execute_in_place.ensures.same_grant)
+
+pub returns-in-Err-clause-others : goal.returns-in-Err-clause-others
+returns-in-Err-clause-others g c = c.in-Err.ensures.kept.others
 
 pub returns-in-Err-clause-fault : goal.returns-in-Err-clause-fault
 returns-in-Err-clause-fault g c =

@@ -1,7 +1,14 @@
 use Rattle.std.proofs.Common.{refl, sym, ◌∙◌, ap}
 use Rattle.job_slots.specs.declared.status.Status.{Status}
+use Rattle.job_steps.specs.States.{ruled}
 use Rattle.job_slots.specs.Slots.{standing_by}
+use Rattle.job_slots.proofs.Overlaid.{may_end}
 use Rattle.job_slots.proofs.slot.Slot.end_by_step.Goals as goal
+
+pub end-requires-clause-may_end : goal.end-requires-clause-may_end
+end-requires-clause-may_end g c =
+    may_end c.args.turn.number c.args.blocks.now (ruled c.args.turn.rule c.args.job.now) c.args.self.now
+    c.requires.shows c.requires.active
 
 pub end-requires-clause-ending : goal.end-requires-clause-ending
 end-requires-clause-ending g c = c.requires.ends.is

@@ -1,15 +1,16 @@
-use Rattle.std.proofs.Common.{◌≡◌, ◌+◌, ℕ, Some, sym, ◌∙◌, ap, subst}
+use Rattle.std.proofs.Common.{◌≡◌, ◌+◌, Some, refl, sym, ◌∙◌, ap, subst}
 use Rattle.vcode_base.specs.declared.outcome.Outcome.TheVariants.{Fault}
 use Rattle.vcode_base.specs.Meaning.{value_fault}
-use Rattle.job_memory.specs.JobBlocks.{JobBlocks, ChangesOnlyOf}
 use Rattle.job_steps.specs.declared.event.Event.TheVariants as event
 use Rattle.job_steps.specs.Events.{next_standing}
 use Rattle.job_steps.specs.Standings.{Live, InFlight, Ended}
 use Rattle.job_steps.specs.States.{ruled}
 use Rattle.job_steps.specs.Tickets.{question_by}
-use Rattle.job_slots.specs.Answers.{EndsByStep, Steps, standing_after_step}
+use Rattle.job_slots.specs.declared.answer.Stepped.TheVariants as stepped
+use Rattle.job_slots.specs.declared.status.Status.{Status}
+use Rattle.job_slots.specs.Answers.{EndsByStep, IsEnding}
 use Rattle.job_slots.specs.InPlace.{IsPlaceable, operands_in}
-use Rattle.job_slots.specs.Slots.{SlotState, Shows, IsActive, standing_of}
+use Rattle.job_slots.specs.Slots.{SlotState, Shows, standing_by, standing_of}
 use Rattle.job_slots.proofs.Started.{flying, runs, shows_flying}
 use Rattle.job_slots.proofs.OneGo.{after_live, as_live, ends_by_fault, is_done, is_ended, stands_after}
 use Rattle.job_slots.proofs.slot.Slot.step_in_place.Given.{Over}
@@ -90,52 +91,27 @@ fails g c =
     c.args.placement.line c.requires.shows.verified c.requires.goes_on c.requires.placeable.question faulty
     c.requires.placeable.line_is
 
-pub end_by_step-requires-clause-shows : goal.end_by_step-requires-clause-shows
-end_by_step-requires-clause-shows g c =
+pub end-requires-clause-ending : goal.end-requires-clause-ending
+end-requires-clause-ending g c =
+    let at = goal.at.end-requires-clause-ending g c in
     let task = ruled c.args.turn.rule c.args.job.now in
-    let same = c.in-Err.ensures.unchanged in
-    let before : Shows c.args.turn.number c.args.blocks.now task c.carry_out_in_place.new.self =
-    subst (λ (s : SlotState). Shows c.args.turn.number c.args.blocks.now task s) (sym same.0)
-    (subst (λ (s : SlotState). Shows c.args.turn.number c.args.blocks.now task (flying s)) (sym c.self.view_is)
-    (shows_flying c.args.turn.number c.args.blocks.now task c.args.self.now c.requires.shows c.requires.live
-    c.requires.settled c.requires.goes_on)) in
-    subst (λ (b : JobBlocks). Shows c.args.turn.number b task c.carry_out_in_place.new.self) (sym same.1) before
-
-pub end_by_step-requires-clause-active : goal.end_by_step-requires-clause-active
-end_by_step-requires-clause-active g c =
-    subst (λ (s : SlotState). IsActive s.status) (sym c.in-Err.ensures.unchanged.0) tt
-
-pub end_by_step-requires-clause-ends : goal.end_by_step-requires-clause-ends
-end_by_step-requires-clause-ends g c =
-    let at = goal.at.end_by_step-requires-clause-ends g c in
-    let task = ruled c.args.turn.rule c.args.job.now in
-    subst (λ (s : SlotState). EndsByStep c.args.turn.number task s.trace.executed s.trace.peak
-    (Fault c.in-Err.fault c.args.placement.line)) (sym c.in-Err.ensures.unchanged.0)
-    (subst (λ (s : SlotState). EndsByStep c.args.turn.number task s.trace.executed s.trace.peak
-    (Fault c.in-Err.fault c.args.placement.line)) (sym c.self.view_is) (fails g at.In-Err))
-
--- the job has executed as many instructions as before
-as_many : (g : Over) (c : In-Err g) →
-    c.carry_out_in_place.new.self.trace.executed ≡ c.args.self.now.trace.executed
-as_many g c =
-    ap (λ (s : SlotState). s.trace.executed) c.in-Err.ensures.unchanged.0
-    ∙ ap (λ (s : SlotState). s.trace.executed) c.self.view_is
+    subst (λ (s : SlotState). IsEnding task s.trace.executed s.trace.peak (Fault c.in-Err.fault c.args.placement.line))
+    (sym c.in-Err.ensures.unchanged)
+    (subst (λ (s : SlotState). IsEnding task s.trace.executed s.trace.peak
+    (Fault c.in-Err.fault c.args.placement.line)) (sym c.self.view_is) (fails g at.In-Err).is)
 
 pub returns-in-Err-clause-answer : goal.returns-in-Err-clause-answer
 returns-in-Err-clause-answer g c words enough =
-    let task = ruled c.args.turn.rule c.args.job.now in
-    as_live c.args.turn.number words task c.args.self.now c.end_by_step.result c.requires.live
-    (subst (λ (n : ℕ). Steps c.args.turn.number words task (Live n) c.end_by_step.result)
-    (as_many g (goal.at.returns-in-Err-clause-answer g c).In-Err) (c.end_by_step.ensures.answer words enough))
+    as_live c.args.turn.number words (ruled c.args.turn.rule c.args.job.now) c.args.self.now stepped.Ended
+    c.requires.live ((refl, enough), (fails g (goal.at.returns-in-Err-clause-answer g c).In-Err).standing)
 
 pub returns-in-Err-clause-others : goal.returns-in-Err-clause-others
 returns-in-Err-clause-others g c =
-    subst (λ (b : JobBlocks). ChangesOnlyOf c.args.turn.number b c.end_by_step.new.blocks)
-    c.in-Err.ensures.unchanged.1 c.end_by_step.ensures.others
+    (c.changes_join.ensures c.args.turn.number).both c.args.blocks.now c.carry_out_in_place.new.blocks
+    c.end.new.blocks c.carry_out_in_place.ensures.others c.end.ensures.others
 
 pub returns-in-Err-clause-standing : goal.returns-in-Err-clause-standing
 returns-in-Err-clause-standing g c =
-    let task = ruled c.args.turn.rule c.args.job.now in
-    after_live c.args.turn.number task c.args.self.now c.end_by_step.new.self c.requires.live
-    (c.end_by_step.ensures.standing ∙ ap (λ (n : ℕ). standing_after_step c.args.turn.number task (Live n))
-    (as_many g (goal.at.returns-in-Err-clause-standing g c).In-Err))
+    after_live c.args.turn.number (ruled c.args.turn.rule c.args.job.now) c.args.self.now c.end.new.self
+    c.requires.live (ap (λ (s : Status). standing_by s c.end.new.self.trace.executed) c.end.ensures.ended
+    ∙ sym (fails g (goal.at.returns-in-Err-clause-standing g c).In-Err).standing)

@@ -1,0 +1,86 @@
+use Rattle.std.proofs.Common.{◌≡◌, ◌≤◌, ◌∙◌, ℕ, ℤ, List, [], length, map, ap, sym, subst, arith}
+use Rattle.std.proofs.lemmas.List.{length-map}
+use Rattle.vcode_base.specs.declared.op.Op.{Op}
+use Rattle.vcode_base.specs.declared.op.Op.TheVariants.{Segmented as SegmentedOp}
+use Rattle.vcode_base.specs.declared.op.Segmented.TheVariants.{DefaultPermute}
+use Rattle.vcode_base.specs.Meaning.{value_fault}
+use Rattle.refcounts.specs.Making.{words_at}
+use Rattle.refcounts.specs.SharedState.{IsLive, AreLive, occurrences}
+use Rattle.job_slots.specs.InPlace.{CanCompute, IsResult, with_third}
+use Rattle.job_slots.proofs.Exchanges.{own_are_live}
+use Rattle.job_slots.proofs.LettingGo.{own_named}
+use Rattle.job_slots.proofs.Overlaid.{computed_over, default_listed, keeps_references, others_differ, others_too}
+use Rattle.job_slots.proofs.Overlaid.{words_with_third}
+use Rattle.job_slots.proofs.in_place.compute_over.Given.{Over}
+use Rattle.job_slots.proofs.in_place.compute_over.Goals as goal
+use Rattle.job_slots.proofs.in_place.compute_over.Goals.{After-changes_join}
+
+listed : (g : Over) (c : After-changes_join g) → 1 ≤ occurrences c.args.default c.args.operands.now
+listed g c =
+    subst (λ (ids : List ℕ). 1 ≤ occurrences c.args.default ids) (sym c.requires.are)
+    (default_listed c.args.default c.args.others c.requires.four)
+
+-- the words of the operands
+lists : (g : Over) (c : After-changes_join g) →
+    map (words_at c.args.blocks.now.memory) c.args.operands.now
+    ≡ with_third [] (map (words_at c.args.blocks.now.memory) c.args.others)
+    (words_at c.args.blocks.now.memory c.args.default)
+lists g c =
+    ap (map (words_at c.args.blocks.now.memory)) c.requires.are
+    ∙ words_with_third (words_at c.args.blocks.now.memory) c.args.default c.args.others c.requires.four
+
+pub exchange_with-requires-clause-listed : goal.exchange_with-requires-clause-listed
+exchange_with-requires-clause-listed g c =
+    listed g (goal.at.exchange_with-requires-clause-listed g c).After-changes_join
+
+pub exchange_with-requires-clause-live : goal.exchange_with-requires-clause-live
+exchange_with-requires-clause-live g c =
+    let m = c.args.blocks.now.memory in
+    others_too (IsLive m) c.args.default c.args.others
+    c.requires.four
+    (subst (AreLive m) c.requires.are
+    (own_are_live c.args.turn.number c.args.blocks.now c.args.operands.now c.requires.own))
+
+pub exchange_with-requires-clause-others : goal.exchange_with-requires-clause-others
+exchange_with-requires-clause-others g c =
+    let named = own_named c.args.turn.number c.args.blocks.now.memory c.args.operands.now c.requires.own
+    c.args.default in
+    others_differ c.args.default c.args.others
+    c.requires.four
+    (subst (λ (ids : List ℕ). occurrences c.args.default ids ≤ 1) c.requires.are
+    (omega (arith, named, c.requires.single)))
+
+pub exchange_with-requires-clause-can : goal.exchange_with-requires-clause-can
+exchange_with-requires-clause-can g c =
+    let at = (goal.at.exchange_with-requires-clause-can g c).After-changes_join in
+    let words = words_at c.args.blocks.now.memory in (
+      length-map c.args.others words ∙ c.requires.four,
+      subst (λ (xs : List (List ℤ)). CanCompute (SegmentedOp (DefaultPermute c.args.scalar)) xs
+          (length (words c.args.default))) (lists g at) c.requires.can,
+    )
+
+pub returns-in-Ok-clause-computed : goal.returns-in-Ok-clause-computed
+returns-in-Ok-clause-computed g c =
+    let at = (goal.at.returns-in-Ok-clause-computed g c).After-changes_join in
+    let e = c.in-Ok.ensures.exchanged in
+    let op : Op = SegmentedOp (DefaultPermute c.args.scalar) in
+    computed_over (record {
+      only_free = c.releases_only_free.ensures;
+      only_their_job = c.releases_change_only_their_job.ensures;
+    }) c.args.turn.rule c.args.turn.number op c.args.operands.now c.args.default e.words c.args.blocks.now
+    c.exchange_with.new.self
+    (subst (λ (xs : List (List ℤ)). IsResult op xs e.words) (sym (lists g at)) e.so)
+    c.exchange_with.ensures.fresh.0 c.exchange_with.ensures.fresh.1 c.requires.own e.rewritten
+
+pub returns-in-Err-clause-fault : goal.returns-in-Err-clause-fault
+returns-in-Err-clause-fault g c =
+    ap (value_fault (SegmentedOp (DefaultPermute c.args.scalar)))
+    (lists g (goal.at.returns-in-Err-clause-fault g c).After-changes_join) ∙ c.in-Err.ensures.fault.so
+
+pub returns-in-Err-clause-kept : goal.returns-in-Err-clause-kept
+returns-in-Err-clause-kept g c =
+    let at = (goal.at.returns-in-Err-clause-kept g c).After-changes_join in
+    let e = c.in-Err.ensures.fault in
+    keeps_references c.releases_change_only_their_job.ensures c.blocks_change_only_their_job.ensures
+    c.changes_join.ensures c.args.turn.number c.args.default c.args.operands.now e.words c.args.blocks.now
+    c.exchange_with.new.self c.requires.own (listed g at) c.requires.single c.exchange_with.ensures.fresh.0 e.rewritten
