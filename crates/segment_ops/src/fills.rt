@@ -27,6 +27,7 @@ use vcode_base::{DataFault, Segmented};
 /// [`IndexTwice`](DataFault::IndexTwice) if two elements of a segment go to one index.
 /// [`BadLength`](DataFault::BadLength) if a descriptor is made of a negative length or of lengths
 /// whose total is above 4,294,967,295. What the results then hold is not specified.
+#[inline(always)]
 pub fn fill(
     op: Segmented,
     ops: &[&[i64]],

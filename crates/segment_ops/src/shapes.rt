@@ -19,6 +19,7 @@ use vcode_base::{DataFault, Segmented};
 /// [`DataFault::SegmentCount`] if the number of an operand's elements isn't the number of segments, or two
 /// descriptors have different numbers of segments; else [`DataFault::SegmentTotal`] if the number of an
 /// operand's words isn't the total of its descriptor.
+#[inline(always)]
 pub fn shape(op: Segmented, ops: &[&[i64]]) -> Result<(), DataFault>
     requires kinds { HaveKinds (segmented_operands op) (contents ops.now) }
     ensures { MatchResult result
