@@ -10,7 +10,7 @@ use vcode_base::element::{And, Combine, Or, Product, Sum, Xor};
 use vcode_base::{Fold, Logic};
 
 /// How many elements at the front of a segment are multiplied without a loop.
-const FEW: usize = 8;
+const FEW: usize = 16;
 
 /// `+_REDUCE` and the other reductions: writes the fold of each segment, which of an empty one is
 /// the identity.
