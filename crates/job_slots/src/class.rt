@@ -5,9 +5,10 @@ ghost use Rattle.std.specs.Prelude.{◌≡◌};
 ghost use Rattle.vcode_base.specs.declared.op.Op.{Op};
 ghost use Rattle.vcode_base.specs.declared.op.Op.TheVariants as op;
 ghost use Rattle.vcode_base.specs.declared.op.Elementwise.TheVariants as elementwise;
+ghost use Rattle.vcode_base.specs.declared.op.Segmented.TheVariants as segmented;
 ghost use Rattle.vcode_base.specs.declared.op.StackMove.TheVariants as motion;
 
-use vcode_base::{Arith, Comparison, Elementwise, Op, Scalar, Segmented, StackMove};
+use vcode_base::{Arith, Comparison, Elementwise, Fold, Op, Scalar, Segmented, StackMove};
 
 /// An instruction without its list and without the name that it calls, of a class that its type says.
 pub(crate) trait Class {
@@ -71,12 +72,159 @@ impl Class for Elementwise {
     }
 }
 
-impl Class for Segmented {
-    ghost among_all = { λ it. op.Segmented it };
+/// `+_SCAN` and the other scans.
+#[derive(Drop)]
+pub(crate) struct Scan(pub(crate) Fold);
+
+impl Class for Scan {
+    ghost among_all = { λ it. op.Segmented (segmented.Scan it.0) };
 
     #[inline(always)]
     fn op(self) -> Op {
-        Op::Segmented(self)
+        Op::Segmented(Segmented::Scan(self.0))
+    }
+}
+
+/// `+_REDUCE` and the other reductions.
+#[derive(Drop)]
+pub(crate) struct Reduce(pub(crate) Fold);
+
+impl Class for Reduce {
+    ghost among_all = { λ it. op.Segmented (segmented.Reduce it.0) };
+
+    #[inline(always)]
+    fn op(self) -> Op {
+        Op::Segmented(Segmented::Reduce(self.0))
+    }
+}
+
+/// `DIST` of elements of this kind.
+#[derive(Drop)]
+pub(crate) struct Distribute(pub(crate) Scalar);
+
+impl Class for Distribute {
+    ghost among_all = { λ it. op.Segmented (segmented.Distribute it.0) };
+
+    #[inline(always)]
+    fn op(self) -> Op {
+        Op::Segmented(Segmented::Distribute(self.0))
+    }
+}
+
+/// `INDEX`.
+#[derive(Drop)]
+pub(crate) struct Index;
+
+impl Class for Index {
+    ghost among_all = { λ it. op.Segmented segmented.Index };
+
+    #[inline(always)]
+    fn op(self) -> Op {
+        Op::Segmented(Segmented::Index)
+    }
+}
+
+/// `PERMUTE` of elements of this kind.
+#[derive(Drop)]
+pub(crate) struct Permute(pub(crate) Scalar);
+
+impl Class for Permute {
+    ghost among_all = { λ it. op.Segmented (segmented.Permute it.0) };
+
+    #[inline(always)]
+    fn op(self) -> Op {
+        Op::Segmented(Segmented::Permute(self.0))
+    }
+}
+
+/// `BPERMUTE` of elements of this kind.
+#[derive(Drop)]
+pub(crate) struct BackPermute(pub(crate) Scalar);
+
+impl Class for BackPermute {
+    ghost among_all = { λ it. op.Segmented (segmented.BackPermute it.0) };
+
+    #[inline(always)]
+    fn op(self) -> Op {
+        Op::Segmented(Segmented::BackPermute(self.0))
+    }
+}
+
+/// `DPERMUTE` of elements of this kind.
+#[derive(Drop)]
+pub(crate) struct DefaultPermute(pub(crate) Scalar);
+
+impl Class for DefaultPermute {
+    ghost among_all = { λ it. op.Segmented (segmented.DefaultPermute it.0) };
+
+    #[inline(always)]
+    fn op(self) -> Op {
+        Op::Segmented(Segmented::DefaultPermute(self.0))
+    }
+}
+
+/// `EXTRACT` of elements of this kind.
+#[derive(Drop)]
+pub(crate) struct Extract(pub(crate) Scalar);
+
+impl Class for Extract {
+    ghost among_all = { λ it. op.Segmented (segmented.Extract it.0) };
+
+    #[inline(always)]
+    fn op(self) -> Op {
+        Op::Segmented(Segmented::Extract(self.0))
+    }
+}
+
+/// `REPLACE` of elements of this kind.
+#[derive(Drop)]
+pub(crate) struct Replace(pub(crate) Scalar);
+
+impl Class for Replace {
+    ghost among_all = { λ it. op.Segmented (segmented.Replace it.0) };
+
+    #[inline(always)]
+    fn op(self) -> Op {
+        Op::Segmented(Segmented::Replace(self.0))
+    }
+}
+
+/// `PACK` of elements of this kind.
+#[derive(Drop)]
+pub(crate) struct Pack(pub(crate) Scalar);
+
+impl Class for Pack {
+    ghost among_all = { λ it. op.Segmented (segmented.Pack it.0) };
+
+    #[inline(always)]
+    fn op(self) -> Op {
+        Op::Segmented(Segmented::Pack(self.0))
+    }
+}
+
+/// `MAKE_SEGDES`.
+#[derive(Drop)]
+pub(crate) struct MakeSegdes;
+
+impl Class for MakeSegdes {
+    ghost among_all = { λ it. op.Segmented segmented.MakeSegdes };
+
+    #[inline(always)]
+    fn op(self) -> Op {
+        Op::Segmented(Segmented::MakeSegdes)
+    }
+}
+
+/// `LENGTHS`.
+#[derive(Drop)]
+pub(crate) struct Lengths;
+
+impl Class for Lengths {
+    ghost among_all = { λ it. op.Segmented segmented.Lengths };
+
+    #[inline(always)]
+    fn op(self) -> Op {
+        Op::Segmented(Segmented::Lengths)
     }
 }
 

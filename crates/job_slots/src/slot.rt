@@ -5,6 +5,7 @@ ghost use Rattle.std.specs.Prelude.{OnOk, OnErr, None, Some, is_some, option_cop
 ghost use Rattle.vcode_base.specs.declared.limits.TheConstants.{MOST_WORDS};
 ghost use Rattle.vcode_base.specs.declared.op.Op.TheVariants.{Return};
 ghost use Rattle.vcode_base.specs.declared.outcome.Outcome.TheVariants.{Returned};
+ghost use Rattle.vcode_base.specs.declared.op.Op.TheVariants as instruction;
 ghost use Rattle.vcode_base.specs.Meaning.{value_fault};
 ghost use Rattle.refcounts.specs.SharedState.{block_count};
 ghost use Rattle.job_memory.specs.JobBlocks.{HasGrant, ChangesOnlyOf, granted_words, own_slots};
@@ -53,7 +54,7 @@ use refcounts::laws::{releases_are_counted, releases_keep_blocks};
 use std::alloc::{AllocError, Allocator};
 use std::marker::Model;
 use vcode_base::laws::results_have_needed_lengths;
-use vcode_base::{DataFault, Elementwise, Instr, Op, Outcome, StackMove, Values};
+use vcode_base::{DataFault, Elementwise, Instr, Op, Outcome, Segmented, StackMove, Values};
 use vcode_reader::CodeItem;
 
 /// The place of a job in its run, and how it ended, once that is known.
@@ -417,7 +418,7 @@ impl<A: Allocator> Slot<A> {
                 self.step_as(turn, job, blocks, desk, *op)
             }
             CodeItem::Do(Instr::Elementwise(op)) => { self.step_as(turn, job, blocks, desk, *op) }
-            CodeItem::Do(Instr::Segmented(op)) => { self.step_as(turn, job, blocks, desk, *op) }
+            CodeItem::Do(Instr::Segmented(op)) => self.step_segmented(turn, job, blocks, desk, *op),
             CodeItem::Do(Instr::Move(StackMove::Copy, lower, upper)) => {
                 let class = class::Copy(*lower, *upper);
                 self.step_without_operands(turn, job, blocks, class, &[])
@@ -467,6 +468,52 @@ impl<A: Allocator> Slot<A> {
     {
         steps_can_begin::<BlockId>();
         self.track.settle(job.verified().program());
+    }
+
+    /// Carries out the next instruction of a job that is live, which is this one, by its own class.
+    #[inline(always)]
+    fn step_segmented(
+        &mut self,
+        turn: Turn,
+        job: &Job<A>,
+        blocks: &mut JobMemory<A>,
+        desk: &mut Desk<A>,
+        op: Segmented,
+    ) -> Stepped
+        requires shows { Shows turn.number blocks.old (ruled turn.rule job.now) self.old }
+        requires live { self.old.status ≡ status.Live }
+        requires numbers { block_count blocks.old.memory + 2 ≤ length blocks.old.memory.slots }
+        requires settled { IsSettled (functions_of job.now.verified) self.old.trace.frames }
+        requires enough { job.now.limits.words ≤ desk.old }
+        requires next { IsOpOfNext (ruled turn.rule job.now) self.old.trace (instruction.Segmented op) }
+        ensures answer { Steps turn.number desk.old (ruled turn.rule job.now) (standing_of self.old) result }
+        ensures shows { Shows turn.number blocks.new (ruled turn.rule job.now) self.new }
+        ensures others { ChangesOnlyOf turn.number blocks.old blocks.new }
+        ensures standing { standing_of self.new
+            ≡ standing_after_step turn.number (ruled turn.rule job.now) (standing_of self.old) }
+        ensures desk { desk.new ≡ desk.old }
+        ensures steps { IsPassedOver result → ⊥ }
+    {
+        match op {
+            Segmented::Scan(it) => { self.step_as(turn, job, blocks, desk, class::Scan(it)) }
+            Segmented::Reduce(it) => { self.step_as(turn, job, blocks, desk, class::Reduce(it)) }
+            Segmented::Distribute(it) => {
+                self.step_as(turn, job, blocks, desk, class::Distribute(it))
+            }
+            Segmented::Index => self.step_as(turn, job, blocks, desk, class::Index),
+            Segmented::Permute(it) => { self.step_as(turn, job, blocks, desk, class::Permute(it)) }
+            Segmented::BackPermute(it) => {
+                self.step_as(turn, job, blocks, desk, class::BackPermute(it))
+            }
+            Segmented::DefaultPermute(it) => {
+                self.step_as(turn, job, blocks, desk, class::DefaultPermute(it))
+            }
+            Segmented::Extract(it) => { self.step_as(turn, job, blocks, desk, class::Extract(it)) }
+            Segmented::Replace(it) => { self.step_as(turn, job, blocks, desk, class::Replace(it)) }
+            Segmented::Pack(it) => { self.step_as(turn, job, blocks, desk, class::Pack(it)) }
+            Segmented::MakeSegdes => self.step_as(turn, job, blocks, desk, class::MakeSegdes),
+            Segmented::Lengths => self.step_as(turn, job, blocks, desk, class::Lengths),
+        }
     }
 
     /// Carries out the next instruction of a job that is live, which is this one. It is compiled for each class apart.
