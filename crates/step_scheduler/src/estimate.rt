@@ -84,22 +84,19 @@ impl Estimate {
         taken < self.outside.saturating_mul(100)
     }
 
-    /// Whether this number of workers takes at most two thirds of the time of one thread alone. They take what is under
-    /// the lock at least, and their part of the whole.
-    pub(crate) fn pays(&self, workers: usize) -> bool {
+    /// Whether workers take at most a third more of the processors' time than one thread alone, so that two of them end
+    /// in two thirds of its time. What is under the lock takes at most two thirds of it then, too: a step is under the
+    /// lock for at least twice as long as one thread takes beside computing it.
+    pub(crate) fn pays(&self) -> bool {
         let whole = self.inside.saturating_add(self.outside);
-        let within = self.alone.saturating_mul(2);
-        self.inside.saturating_mul(3) <= within
-            && whole.saturating_mul(3) <= within.saturating_mul(workers as u64)
+        whole.saturating_mul(3) <= self.alone.saturating_mul(4)
     }
 
-    /// Whether this number of workers takes at most three quarters of the time of one thread alone, and at most two
-    /// thirds of it under the lock. The first steps of a job are shorter than later ones.
-    pub(crate) fn is_promising(&self, workers: usize) -> bool {
+    /// Whether more steps may show that workers pay: they take at most half more of the processors' time. The first
+    /// steps of a job are shorter than later ones.
+    pub(crate) fn may_pay(&self) -> bool {
         let whole = self.inside.saturating_add(self.outside);
-        let within = self.alone.saturating_mul(3);
-        self.inside.saturating_mul(3) <= self.alone.saturating_mul(2)
-            && whole.saturating_mul(4) <= within.saturating_mul(workers as u64)
+        whole.saturating_mul(2) <= self.alone.saturating_mul(3)
     }
 }
 

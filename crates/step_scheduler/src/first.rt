@@ -9,15 +9,21 @@ use crate::estimate::Estimate;
 use job_machine::{Admission, Begun, Desk, Finished, Machine, Status, compute};
 use std::alloc::Allocator;
 
-/// How many steps of a job are looked at, a long one counted as several, unless it is over before.
+/// How many steps are looked at, a long one counted as several.
 const LOOKED_AT: u64 = 128;
 
-/// How many steps of all jobs are looked at.
-const MOST_LOOKED_AT: u64 = 192;
+/// How many are looked at if the first ones leave open whether workers pay.
+const MOST_LOOKED_AT: u64 = 320;
 
-/// Whether the steps that were looked at show that this number of workers is to be started.
-fn show_that_pay(seen: &Estimate, workers: usize) -> bool {
-    seen.steps() >= LOOKED_AT && seen.is_promising(workers)
+/// Whether the steps that were looked at show that workers pay.
+fn show_that_pay(seen: &Estimate) -> bool {
+    seen.steps() >= LOOKED_AT && seen.pays()
+}
+
+/// Whether the steps that were looked at show whether workers pay.
+fn is_enough(seen: &Estimate) -> bool {
+    let steps = seen.steps();
+    steps >= MOST_LOOKED_AT || steps >= LOOKED_AT && (seen.pays() || !seen.may_pay())
 }
 
 /// The first of the jobs that were admitted and aren't collected, and how many these are.
@@ -91,7 +97,7 @@ fn collect<A: Allocator + Clone>(machine: &mut Machine<A>, job: usize)
     let _ = machine.collect(job);
 }
 
-/// Carries out the first steps of a job, and collects it if it is over.
+/// Carries out the first steps of a job, until they show whether workers pay, and collects it if it is over.
 fn look_at<A: Allocator + Clone>(
     machine: &mut Machine<A>,
     job: usize,
@@ -102,9 +108,8 @@ fn look_at<A: Allocator + Clone>(
     ensures desk { result ≡ desk }
 {
     let mut desk = desk;
-    let end = seen.steps().saturating_add(LOOKED_AT).min(MOST_LOOKED_AT);
-    for _ in 0..LOOKED_AT {
-        if seen.steps() >= end {
+    for _ in 0..MOST_LOOKED_AT {
+        if is_enough(seen) {
             return desk;
         }
         let (goes_on, same) = takes_step(machine, job, desk, seen);
@@ -117,19 +122,18 @@ fn look_at<A: Allocator + Clone>(
     desk
 }
 
-/// Looks at one job after another of those that were admitted, until that shows that workers pay, or is enough.
+/// Looks at one job after another of those that were admitted, until that shows whether workers pay.
 fn look<A: Allocator + Clone>(
     machine: &mut Machine<A>,
     desk: Desk<A>,
     seen: &mut Estimate,
-    workers: usize,
 ) -> Desk<A>
     ensures continues { Continues machine.old machine.new }
     ensures desk { result ≡ desk }
 {
     let mut desk = desk;
     for place in 0..machine.jobs() {
-        if seen.steps() >= MOST_LOOKED_AT || show_that_pay(seen, workers) {
+        if is_enough(seen) {
             return desk;
         }
         desk = look_at(machine, place + 1, desk, seen);
@@ -141,7 +145,6 @@ fn look<A: Allocator + Clone>(
 fn runs_until_workers_pay<A: Allocator + Clone>(
     machine: &mut Machine<A>,
     desk: Desk<A>,
-    workers: usize,
     is_open: bool,
 ) -> (bool, Desk<A>)
     requires { All (λ task. task.limits.words ≤ desk) machine.old.tasks }
@@ -158,17 +161,16 @@ fn runs_until_workers_pay<A: Allocator + Clone>(
         let (Some(first), count) = underway(machine) else {
             return (false, desk);
         };
-        let crew = workers.min(count);
         if count == 1 {
             if !runs_to_its_end(machine, first, &mut desk) {
                 return (false, desk);
             }
-        } else if !is_open || show_that_pay(&seen, crew) {
+        } else if !is_open || show_that_pay(&seen) {
             return (true, desk);
-        } else if seen.steps() >= MOST_LOOKED_AT {
+        } else if is_enough(&seen) {
             return (false, desk);
         } else {
-            desk = look(machine, desk, &mut seen, crew);
+            desk = look(machine, desk, &mut seen);
         }
     }
     (false, desk)
@@ -196,6 +198,6 @@ pub(crate) fn run_first<A: Allocator + Clone>(
         return (0, false, desk);
     }
     let before = executed_in_all(machine);
-    let (starts, desk) = runs_until_workers_pay(machine, desk, workers, is_open);
+    let (starts, desk) = runs_until_workers_pay(machine, desk, is_open);
     (executed_in_all(machine) - before, starts, desk)
 }

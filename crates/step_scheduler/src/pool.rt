@@ -146,7 +146,7 @@ impl<A: Allocator> WorkerPool<A> {
     /// so if steps are short, if they compute little for the words that they copy, or if there is one job to run. It
     /// is never so of a small batch.
     pub(crate) fn hands_back(&self) -> bool {
-        self.estimate.steps() >= TO_DECIDE && !self.estimate.pays(self.workers.min(self.runnable()))
+        self.estimate.steps() >= TO_DECIDE && (self.runnable() < 2 || !self.estimate.pays())
     }
 
     /// How many workers are to be started: no more than there are jobs.
