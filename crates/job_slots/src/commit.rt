@@ -124,7 +124,7 @@ pub(crate) fn execute<C: Class, A: Allocator>(
     steps_execute();
     let _used = blocks.used();
     let results = settle::<C, A>(turn, track, blocks, made);
-    track.advance(job, made.op, made.flag, results.as_slice(), made.words);
+    track.advance_settled(job, made.op, made.flag, results.as_slice(), made.words);
 }
 
 /// The words that count as held while an instruction's results are made: not those of the operands under the second

@@ -215,7 +215,7 @@ pub(crate) fn execute_in_place<A: Allocator>(
     match compute(turn, op, len, operands, blocks) {
         Ok(id) => {
             let words = words_by(turn.rule, held + len, blocks.held(turn.number));
-            track.advance(job, op, flag, &[id], words);
+            track.advance_settled(job, op, flag, &[id], words);
             Ok(())
         }
         Err(fault) => Err(fault),

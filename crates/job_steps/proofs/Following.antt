@@ -1,10 +1,9 @@
 -- The frames after an instruction.
 use Rattle.std.proofs.Common.{◌≡◌, ◌∙◌, ◌+◌, ◌<◌, ℕ, suc, Bool, true, false, List, [], ◌∷◌, length, drop, map}
 use Rattle.std.proofs.Common.{Option}
-use Rattle.std.proofs.Common.{Some, None, refl, ap, sym, subst, arith}
+use Rattle.std.proofs.Common.{Some, None, refl, ap, sym, subst}
 use Rattle.std.specs.Prelude.{slice_get, position, if◌then◌else◌, option_map, IsSome, max}
 use Rattle.std.specs.Str.{bytes_eq}
-use Rattle.std.proofs.lemmas.List.{length-drop}
 use Rattle.std.proofs.lemmas.Option.{slice_get-map}
 use Rattle.vcode_base.specs.declared.instr.Instr.TheVariants as instr
 use Rattle.vcode_base.specs.declared.op.Op.{Op}
@@ -24,7 +23,7 @@ use Rattle.signatures.specs.Signatures.{FunctionType}
 use Rattle.verifier.specs.Typed.{TypedProgram}
 use Rattle.job_steps.specs.declared.frame.Frame.{Frame}
 use Rattle.job_steps.specs.Reached.{IsVerifiedBySome}
-use Rattle.job_steps.specs.Frames.{AreActive, GoesOnAt, IsSettled, StopAt, Stands, StandAll, remaining, lines_at}
+use Rattle.job_steps.specs.Frames.{AreActive, IsSettled, StopAt, Stands, StandAll, remaining, lines_at}
 use Rattle.job_steps.specs.Frames.{first_line, lines_from, next_line}
 use Rattle.job_steps.specs.Motions.{stack_after, depth_after}
 use Rattle.job_steps.specs.States.{Task, StackEntry, Active, State, Callee, callee_of, callee_at, callee_named}
@@ -37,7 +36,7 @@ use Rattle.job_steps.specs.Tracks.{CanCall, CanFollow, Follow, IsCallOf, first_c
 use Rattle.job_steps.specs.Tracks.{IsWhere, IsDeep, Advances, EachTrackFollows}
 use Rattle.job_steps.proofs.Passing.{remaining_of_all}
 use Rattle.job_steps.proofs.StackLemmas.{length-stack_after, length-results}
-use Rattle.job_steps.proofs.Standing.{stands_at, stands_past, line_at, line_found}
+use Rattle.job_steps.proofs.Standing.{stands_at, line_at, line_found}
 use Rattle.job_steps.proofs.Typed.{callee}
 
 -- ---- the innermost frame

@@ -1,5 +1,5 @@
 -- The kinds of stacks.
-use Rattle.std.proofs.Common.{◌≡◌, ℕ, ℤ, ◌+◌, ◌≤◌, Bool, true, false, List, [], ◌∷◌, ◌++◌, length, map, take}
+use Rattle.std.proofs.Common.{◌≡◌, ℕ, ◌+◌, ◌≤◌, Bool, true, false, List, [], ◌∷◌, ◌++◌, length, map, take}
 use Rattle.std.proofs.Common.{drop, refl, sym, ◌∙◌, ap, arith}
 use Rattle.std.specs.Prelude.{reverse, ◌&&◌}
 use Rattle.std.proofs.lemmas.List.{length-append, length-take, length-drop, length-reverse, length-map, map-append}
@@ -11,8 +11,8 @@ use Rattle.vcode_base.specs.declared.op.StackMove.TheVariants.{Copy, Pop, MoveTo
 use Rattle.vcode_base.specs.Kinds.{is_same_kind, are_same_kinds}
 use Rattle.vcode_base.specs.Motions.{entries_after_move}
 use Rattle.job_steps.specs.Motions.{top_entries, stack_after_move}
-use Rattle.job_steps.specs.States.{Vector, StackEntry, stack_kinds, new_entries}
-use Rattle.job_steps.specs.Steps.{vectors_of, has_on_top}
+use Rattle.job_steps.specs.States.{StackEntry, stack_kinds}
+use Rattle.job_steps.specs.Steps.{has_on_top}
 
 abbrev pub kind_of : StackEntry → Kind
 kind_of e = e.value.kind

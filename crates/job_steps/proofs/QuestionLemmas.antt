@@ -1,5 +1,5 @@
 -- The operands of a question.
-use Rattle.std.proofs.Common.{◌≡◌, Bool, ℕ, ℤ, ◌*◌, ◌≤◌, List, [], ◌∷◌, length, take, refl, sym, ◌∙◌, ap, arith, subst}
+use Rattle.std.proofs.Common.{◌≡◌, Bool, ℕ, ℤ, ◌≤◌, List, [], ◌∷◌, length, take, refl, sym, ◌∙◌, ap, arith, subst}
 use Rattle.std.specs.Borrow.{Bor}
 use Rattle.std.specs.Bool.{Decides}
 use Rattle.std.specs.Cmp.Lexicographic.{pointwise}
@@ -16,7 +16,6 @@ use Rattle.vcode_base.specs.declared.op.Segmented.{Segmented as SegmentedOp}
 use Rattle.vcode_base.specs.declared.op.Segmented.TheVariants.{Scan}
 use Rattle.vcode_base.specs.Kinds.{HaveKinds, source_kinds, elementwise_operands, segmented_operands}
 use Rattle.vcode_base.specs.Operands.{contents}
-use Rattle.job_steps.specs.Buffers.{HaveAtMost, length_of_all}
 use Rattle.job_steps.specs.Tickets.{CanAnswer, question_by}
 
 elementwise_at_most_five : (op : ElementwiseOp) → length (elementwise_operands op) ≤ 5

@@ -172,10 +172,23 @@ impl<C: Copy, A: Allocator> Track<C, A> {
     /// from the bottom up, `words` is the number of words that were held and needed, and `flag` is that of
     /// an `IF`, and of no account elsewhere.
     ///
-    /// The entries that it takes have to be there, no limit may be passed, a function that it calls has to be there, and
-    /// the track has to be settled. At `RET` of the only active call none is active afterwards, and the entries stay.
-    #[inline(always)]
+    /// The entries that it takes have to be there, no limit may be passed, and a function that it calls has
+    /// to be there. At `RET` of the only active call none is active afterwards, and the entries stay.
     pub fn advance(&mut self, job: &Job<A>, op: Op, flag: bool, results: &[C], words: usize)
+        requires budget { self.old.executed < self.old.limits.budget }
+        requires deep { IsDeep op (length self.old.cells) }
+        requires given { length results.now ≡ length (result_kinds op) }
+        requires cells { depth_after op (length self.old.cells) ≤ self.old.limits.cells }
+        requires calls { CanFollow job.now.verified op self.old.frames self.old.limits.calls }
+        ensures { Advances job.now.verified op flag results.now words self.old self.new }
+    {
+        self.settle(job.verified().program());
+        self.advance_settled(job, op, flag, results, words);
+    }
+
+    /// The same of a track that is settled, which takes less time.
+    #[inline(always)]
+    pub fn advance_settled(&mut self, job: &Job<A>, op: Op, flag: bool, results: &[C], words: usize)
         requires budget { self.old.executed < self.old.limits.budget }
         requires deep { IsDeep op (length self.old.cells) }
         requires given { length results.now ≡ length (result_kinds op) }

@@ -7,7 +7,7 @@ use Rattle.job_slots.specs.Executions.{IsExecuted, CanExecute}
 use Rattle.job_slots.proofs.Executed.{executed_past}
 use Rattle.job_slots.proofs.commit.execute.Given.{Over}
 use Rattle.job_slots.proofs.commit.execute.Goals as goal
-use Rattle.job_slots.proofs.commit.execute.Goals.{After-used-used, After-advance}
+use Rattle.job_slots.proofs.commit.execute.Goals.{After-used-used, After-advance_settled}
 
 -- what is known of the instruction
 can : (g : Over) (c : goal.After-used-used g) →
@@ -33,36 +33,36 @@ pub settle-results-requires-clause-can : goal.settle-results-requires-clause-can
 settle-results-requires-clause-can g c =
     (can g (goal.at.settle-results-requires-clause-can g c).After-used-used).can_settle
 
-pub advance-requires-clause-budget : goal.advance-requires-clause-budget
-advance-requires-clause-budget g c =
-    (can g (goal.at.advance-requires-clause-budget g c).After-used-used).goes_past.unspent
+pub advance_settled-requires-clause-budget : goal.advance_settled-requires-clause-budget
+advance_settled-requires-clause-budget g c =
+    (can g (goal.at.advance_settled-requires-clause-budget g c).After-used-used).goes_past.unspent
 
-pub advance-requires-clause-deep : goal.advance-requires-clause-deep
-advance-requires-clause-deep g c =
-    (can g (goal.at.advance-requires-clause-deep g c).After-used-used).goes_past.deep
+pub advance_settled-requires-clause-deep : goal.advance_settled-requires-clause-deep
+advance_settled-requires-clause-deep g c =
+    (can g (goal.at.advance_settled-requires-clause-deep g c).After-used-used).goes_past.deep
 
-pub advance-requires-clause-cells : goal.advance-requires-clause-cells
-advance-requires-clause-cells g c =
-    (can g (goal.at.advance-requires-clause-cells g c).After-used-used).goes_past.cells
+pub advance_settled-requires-clause-cells : goal.advance_settled-requires-clause-cells
+advance_settled-requires-clause-cells g c =
+    (can g (goal.at.advance_settled-requires-clause-cells g c).After-used-used).goes_past.cells
 
-pub advance-requires-clause-calls : goal.advance-requires-clause-calls
-advance-requires-clause-calls g c =
-    (can g (goal.at.advance-requires-clause-calls g c).After-used-used).goes_past.follows
+pub advance_settled-requires-clause-calls : goal.advance_settled-requires-clause-calls
+advance_settled-requires-clause-calls g c =
+    (can g (goal.at.advance_settled-requires-clause-calls g c).After-used-used).goes_past.follows
 
-pub advance-requires-clause-given : goal.advance-requires-clause-given
-advance-requires-clause-given g c = omega (
+pub advance_settled-requires-clause-given : goal.advance_settled-requires-clause-given
+advance_settled-requires-clause-given g c = omega (
   arith,
   ap length c.as_slice.ensures,
   c.settle-results.ensures.settled.1.given,
 )
 
 -- the track goes past as if what is held and needed counted
-counted : (g : Over) (c : goal.After-advance g) →
+counted : (g : Over) (c : goal.After-advance_settled g) →
     Advances c.args.job.now.verified c.args.made.op c.args.made.flag c.as_slice.result.now
     (held_under c.args.turn.rule c.args.turn.number c.args.made.op c.args.track.now.cells c.args.blocks.now
-    + length c.args.made.first.now + length c.args.made.second.now) c.args.track.now c.advance.new.self
+    + length c.args.made.first.now + length c.args.made.second.now) c.args.track.now c.advance_settled.new.self
 counted g c =
-    let past = c.advance.ensures.advances in
+    let past = c.advance_settled.ensures.advances in
     record {
       limits = past.limits;
       cells = past.cells;
@@ -72,14 +72,14 @@ counted g c =
     }
 
 -- the instruction is executed
-executed : (g : Over) (c : goal.After-advance g) →
+executed : (g : Over) (c : goal.After-advance_settled g) →
     IsExecuted c.args.turn.number c.args.blocks.now c.settle-results.new.blocks (ruled c.args.turn.rule c.args.job.now)
-    c.args.track.now c.advance.new.self
+    c.args.track.now c.advance_settled.new.self
 executed g c =
     executed_past (can g (goal.at.returns-clause-after g c).After-used-used) c.settle-results.ensures.settled.1 refl
     (subst (λ (ids : List ℕ). Advances c.args.job.now.verified c.args.made.op c.args.made.flag ids
     (held_under c.args.turn.rule c.args.turn.number c.args.made.op c.args.track.now.cells c.args.blocks.now
-    + length c.args.made.first.now + length c.args.made.second.now) c.args.track.now c.advance.new.self)
+    + length c.args.made.first.now + length c.args.made.second.now) c.args.track.now c.advance_settled.new.self)
     c.as_slice.ensures (counted g c))
 
 pub returns-clause-after : goal.returns-clause-after
@@ -88,5 +88,5 @@ returns-clause-after g c = (executed g c).after
 pub returns-clause-others : goal.returns-clause-others
 returns-clause-others g c = (executed g c).others
 
-pub advance-requires-clause-settled : goal.advance-requires-clause-settled
-advance-requires-clause-settled g c = c.requires.flying.settled
+pub advance_settled-requires-clause-settled : goal.advance_settled-requires-clause-settled
+advance_settled-requires-clause-settled g c = c.requires.flying.settled

@@ -16,7 +16,7 @@ use Rattle.job_slots.proofs.InPlace.{answered, computed_long}
 use Rattle.job_slots.proofs.Operands.{few_operands}
 use Rattle.job_slots.proofs.in_place.execute_in_place.Given.{Over}
 use Rattle.job_slots.proofs.in_place.execute_in_place.Goals as goal
-use Rattle.job_slots.proofs.in_place.execute_in_place.Goals.{After-top-operands, After-advance, In-Ok}
+use Rattle.job_slots.proofs.in_place.execute_in_place.Goals.{After-top-operands, After-advance_settled, In-Ok}
 
 operands_are : (g : Over) (c : goal.After-top-operands g) →
     c.top-operands.result.now ≡ taken_ids c.args.placement.op c.args.track.now.cells
@@ -77,30 +77,30 @@ pub overflow_add-held : goal.overflow_add-held
 overflow_add-held g c =
     omega (arith, c.requires.placeable.room, c.held-held.ensures.value, c.args.job.now.limits.words_in_range)
 
-pub advance-requires-clause-budget : goal.advance-requires-clause-budget
-advance-requires-clause-budget g c =
-    (can g (goal.at.advance-requires-clause-budget g c).In-Ok).goes_past.unspent
+pub advance_settled-requires-clause-budget : goal.advance_settled-requires-clause-budget
+advance_settled-requires-clause-budget g c =
+    (can g (goal.at.advance_settled-requires-clause-budget g c).In-Ok).goes_past.unspent
 
-pub advance-requires-clause-deep : goal.advance-requires-clause-deep
-advance-requires-clause-deep g c =
-    (can g (goal.at.advance-requires-clause-deep g c).In-Ok).goes_past.deep
+pub advance_settled-requires-clause-deep : goal.advance_settled-requires-clause-deep
+advance_settled-requires-clause-deep g c =
+    (can g (goal.at.advance_settled-requires-clause-deep g c).In-Ok).goes_past.deep
 
-pub advance-requires-clause-cells : goal.advance-requires-clause-cells
-advance-requires-clause-cells g c =
-    (can g (goal.at.advance-requires-clause-cells g c).In-Ok).goes_past.cells
+pub advance_settled-requires-clause-cells : goal.advance_settled-requires-clause-cells
+advance_settled-requires-clause-cells g c =
+    (can g (goal.at.advance_settled-requires-clause-cells g c).In-Ok).goes_past.cells
 
-pub advance-requires-clause-calls : goal.advance-requires-clause-calls
-advance-requires-clause-calls g c =
-    (can g (goal.at.advance-requires-clause-calls g c).In-Ok).goes_past.follows
+pub advance_settled-requires-clause-calls : goal.advance_settled-requires-clause-calls
+advance_settled-requires-clause-calls g c =
+    (can g (goal.at.advance_settled-requires-clause-calls g c).In-Ok).goes_past.follows
 
-pub advance-requires-clause-given : goal.advance-requires-clause-given
-advance-requires-clause-given g c = sym c.requires.placeable.one
+pub advance_settled-requires-clause-given : goal.advance_settled-requires-clause-given
+advance_settled-requires-clause-given g c = sym c.requires.placeable.one
 
-executed : (g : Over) (c : goal.After-advance g) →
+executed : (g : Over) (c : goal.After-advance_settled g) →
     IsExecuted c.args.turn.number c.args.blocks.now c.compute.new.blocks (ruled c.args.turn.rule c.args.job.now)
-    c.args.track.now c.advance.new.self
+    c.args.track.now c.advance_settled.new.self
 executed g c =
-    let at = goal.at.After-advance g c in
+    let at = goal.at.After-advance_settled g c in
     let here = computed g at.In-Ok in
     let old : ℕ = held_words c.args.turn.number c.args.blocks.now in
     let held : ℕ = held_under c.args.turn.rule c.args.turn.number c.args.placement.op c.args.track.now.cells
@@ -120,13 +120,13 @@ executed g c =
       settled = here.exchanged;
     }) refl
     (subst (λ (n : ℕ). Advances c.args.job.now.verified c.args.placement.op c.args.placement.flag (c.in-Ok.id ∷ []) n
-    c.args.track.now c.advance.new.self) all c.advance.ensures.advances)
+    c.args.track.now c.advance_settled.new.self) all c.advance_settled.ensures.advances)
 
 pub returns-in-Ok-clause-after : goal.returns-in-Ok-clause-after
-returns-in-Ok-clause-after g c = (executed g (goal.at.returns-in-Ok-clause-after g c).After-advance).after
+returns-in-Ok-clause-after g c = (executed g (goal.at.returns-in-Ok-clause-after g c).After-advance_settled).after
 
 pub returns-in-Ok-clause-others : goal.returns-in-Ok-clause-others
-returns-in-Ok-clause-others g c = (executed g (goal.at.returns-in-Ok-clause-others g c).After-advance).others
+returns-in-Ok-clause-others g c = (executed g (goal.at.returns-in-Ok-clause-others g c).After-advance_settled).others
 
 pub returns-in-Err-clause-fault : goal.returns-in-Err-clause-fault
 returns-in-Err-clause-fault g c =
@@ -134,5 +134,5 @@ returns-in-Err-clause-fault g c =
     (sym (operands_are g (goal.at.returns-in-Err-clause-fault g c).After-top-operands))
     ∙ c.in-Err.ensures.fault
 
-pub advance-requires-clause-settled : goal.advance-requires-clause-settled
-advance-requires-clause-settled g c = c.requires.flying.settled
+pub advance_settled-requires-clause-settled : goal.advance_settled-requires-clause-settled
+advance_settled-requires-clause-settled g c = c.requires.flying.settled
