@@ -49,7 +49,8 @@ def main() -> None:
     parser.add_argument("folders", nargs="+", type=Path)
     given = parser.parse_args(own[: own.index("--")] if "--" in own else own)
     ways = [[given.program, *ALONE], [given.program, *DEFAULT], *others]
-    print(f"{'batch':20}{'seconds':>9}{'default':>9}" + "".join(f"{f'to {place}':>8}" for place in range(1, len(others) + 1)))
+    heads = "".join(f"{f'to {place}':>8}" for place in range(1, len(others) + 1))
+    print(f"{'batch':20}{'seconds':>9}{'default':>9}{heads}")
     sums: list[float] = [0.0] * (len(ways) - 1)
     found = [(folder, *batch) for folder in given.folders for batch in batches_of(str(folder))]
     for folder, name, options, _ in found:
