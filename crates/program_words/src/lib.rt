@@ -153,13 +153,16 @@ pub fn print_fault<R: Eprint>(rt: &R, program: &str, fault: &WordsFault) -> u8
     fault.exit_status()
 }
 
-/// Prints the text of help or of the version on standard output. Answers the number that the program exits with: 0, or
-/// 3 if standard output can't be written.
-pub fn print_help<R: Print>(rt: &R, text: &str) -> u8
+/// Prints the text of help or of the version on standard output, and on standard error why it can't be written. Answers
+/// the number that the program of this name exits with: 0, or 3 if standard output can't be written.
+pub fn print_help<R: Print + Eprint>(rt: &R, program: &str, text: &str) -> u8
     ensures { (result ≡ 0) ⊎ (result ≡ 3) }
 {
     match print!(rt; "{text}") {
         Ok(()) => 0,
-        Err(_) => 3,
+        Err(error) => {
+            let _ = eprintln!(rt; "{program}: standard output: {error}");
+            3
+        }
     }
 }

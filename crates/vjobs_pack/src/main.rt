@@ -113,7 +113,7 @@ fn main(rt: HostRuntime) -> ExitCode {
             Ok(false) => 1,
             Err(stop) => stopped(&rt, &stop),
         },
-        Ok(Line::Help(text)) => print_help(&rt, text.as_str()),
+        Ok(Line::Help(text)) => print_help(&rt, "vjobs-pack", text.as_str()),
         Err(fault) => print_fault(&rt, "vjobs-pack", &fault),
     };
     ExitCode::from(status)

@@ -107,7 +107,7 @@ fn main(rt: HostRuntime) -> ExitCode {
             Ok(false) => 1,
             Err(stop) => stopped(&rt, &stop),
         },
-        Ok(Line::Help(text)) => print_help(&rt, text.as_str()),
+        Ok(Line::Help(text)) => print_help(&rt, "vjobs-split", text.as_str()),
         Err(fault) => print_fault(&rt, "vjobs-split", &fault),
     };
     ExitCode::from(status)
