@@ -1,0 +1,5 @@
+pub mod Goals
+pub mod Kept
+pub mod Nexts
+pub mod Places
+pub mod Sound
