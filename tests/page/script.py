@@ -7,7 +7,7 @@ import subprocess
 from collections.abc import Iterator
 from pathlib import Path
 
-SOURCES = Path(__file__).resolve().parents[2] / "crates" / "vjobs_why" / "src"
+SOURCES = Path(__file__).resolve().parents[2] / "crates" / "why_page" / "src"
 MOST_COLUMNS = 120
 # What makes elements or code of a text, or asks for something.
 FORBIDDEN = re.compile(r"\b(innerHTML|outerHTML|insertAdjacentHTML|document\.write|eval|Function|createContextualFragment"

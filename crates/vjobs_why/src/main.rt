@@ -1,69 +1,30 @@
 //! Shows why a job of a batch ended, and what there was on the way.
 #![tactic(auto)]
 
-mod bands;
-mod chains;
-mod command;
-mod data;
-mod drawing;
-mod end;
 mod failure;
 mod files;
 mod folded;
-mod folded_source;
-mod holders;
-mod last;
-mod levels;
 mod look;
-mod memory_notes;
 mod output;
-mod padding;
-mod page;
-mod page_data;
-mod page_script;
-mod page_style;
-mod picture;
-mod picture_data;
-mod pieces;
 mod profile;
-mod reasons;
-mod script_base;
-mod script_calls;
-mod script_code;
-mod script_ending;
-mod script_jobs;
-mod script_over_time;
-mod selection;
-mod source_data;
+mod sought;
 mod source_profile;
-mod sources;
-mod spans;
-mod stack;
-mod state_data;
-mod step;
 mod steps;
-mod stops;
-mod survey;
-mod tally;
-mod text;
 mod values;
-mod watch;
-mod wide;
 
 use batch_reader::{Batch, BatchFault, Entry, Fate, JobEntries, JobEntry, JobFault};
-use command::{Asked, Form, Line, Look, Object, VjobsWhy, read_line};
-use data::{batch_refusal_object, refusal_object};
 use failure::Failure;
 use files::{read_batch, write_text};
 use job_steps::Job;
-use look::{object_of, show};
-use page::page_of;
+use look::show;
 use program_words::{WordsFault, print_fault, words_of};
 use refusal_notes::{Lines, batch_of, batch_refusal, refusal};
-use state_data::state_object;
 use std::alloc::{AllocError, Global};
 use std::io;
 use std::process::ExitCode;
+use why_command::{Asked, Form, Line, Look, Object, VjobsWhy, read_line};
+use why_data::{batch_refusal_object, object_of, refusal_object, state_object};
+use why_page::page_of;
 
 /// Reads the command line.
 fn line_of(rt: &HostRuntime) -> Result<Line, WordsFault> {
@@ -87,7 +48,7 @@ fn print_refusal(
 /// Shows as a text what was asked for of an entry of the batch.
 fn show_text(
     rt: &HostRuntime,
-    batch: look::Batch<'_>,
+    batch: job_looks::Batch<'_>,
     place: u64,
     entry: JobEntry<Global>,
     look: &Look,
@@ -105,7 +66,7 @@ fn show_text(
 /// A job that runs as data.
 fn job_data(
     alloc: Global,
-    batch: look::Batch<'_>,
+    batch: job_looks::Batch<'_>,
     place: u64,
     job: Job<Global>,
     object: &Object,
@@ -119,7 +80,7 @@ fn job_data(
 /// An entry of the batch as data.
 fn entry_data(
     alloc: Global,
-    batch: look::Batch<'_>,
+    batch: job_looks::Batch<'_>,
     place: u64,
     entry: JobEntry<Global>,
     object: &Object,
@@ -136,7 +97,7 @@ fn entry_data(
 /// Prints an entry of the batch as data, on a line of its own.
 fn print_data(
     rt: &HostRuntime,
-    batch: look::Batch<'_>,
+    batch: job_looks::Batch<'_>,
     place: u64,
     entry: JobEntry<Global>,
     object: &Object,
@@ -149,7 +110,7 @@ fn print_data(
 fn push_object(
     objects: &mut Vec<String>,
     alloc: Global,
-    batch: look::Batch<'_>,
+    batch: job_looks::Batch<'_>,
     place: u64,
     entry: JobEntry<Global>,
 ) -> Result<(), AllocError> {
@@ -161,7 +122,7 @@ fn push_object(
 /// All that is known of the jobs of the batch as data: of the one of this place, or of all.
 fn objects_of(
     alloc: Global,
-    batch: look::Batch<'_>,
+    batch: job_looks::Batch<'_>,
     entries: JobEntries<Global>,
     job: Option<u64>,
 ) -> Result<Vec<String>, AllocError> {
@@ -182,7 +143,7 @@ fn objects_of(
 /// was asked for.
 fn write_page(
     rt: &HostRuntime,
-    batch: look::Batch<'_>,
+    batch: job_looks::Batch<'_>,
     entries: JobEntries<Global>,
     job: Option<u64>,
     file: &str,
@@ -199,7 +160,7 @@ fn write_page(
 /// Shows what was asked for of an entry of the batch, in a form that is printed.
 fn show_entry(
     rt: &HostRuntime,
-    batch: look::Batch<'_>,
+    batch: job_looks::Batch<'_>,
     place: u64,
     entry: JobEntry<Global>,
     form: &Form,
@@ -215,7 +176,7 @@ fn show_entry(
 /// alone was asked for.
 fn show_entries(
     rt: &HostRuntime,
-    batch: look::Batch<'_>,
+    batch: job_looks::Batch<'_>,
     entries: JobEntries<Global>,
     job: Option<u64>,
     form: &Form,
@@ -238,7 +199,7 @@ fn show_entries(
 /// for.
 fn show_jobs(
     rt: &HostRuntime,
-    batch: look::Batch<'_>,
+    batch: job_looks::Batch<'_>,
     entries: JobEntries<Global>,
     asked: &Asked,
 ) -> Result<bool, Failure> {
@@ -296,7 +257,7 @@ fn show_refused(
 /// Shows what was asked for of the jobs of the batch. Answers the exit status.
 fn show_ready(
     rt: &HostRuntime,
-    batch: look::Batch<'_>,
+    batch: job_looks::Batch<'_>,
     entries: JobEntries<Global>,
     asked: &Asked,
 ) -> Result<u8, Failure> {
@@ -312,7 +273,7 @@ fn show_lines(rt: &HostRuntime, lines: &Lines, asked: &Asked) -> Result<u8, Fail
     match batch_of(rt.alloc(), lines.text())? {
         Batch::Refused(line, fault) => show_refused(rt, lines, line, fault, &asked.form),
         Batch::Jobs(rule, entries) => {
-            let batch = look::Batch {
+            let batch = job_looks::Batch {
                 rule,
                 lines,
                 tries_least: asked.tries_least,

@@ -1,7 +1,6 @@
 //! What is printed.
 
-use crate::pieces::push_more;
-use crate::text::Text;
+use job_looks::{Text, push_more};
 use std::io;
 
 /// Prints a text, unless memory was refused for it.

@@ -1,18 +1,15 @@
 //! The instructions of a job that were executed, one by one.
 
-use crate::look::Batch;
 use crate::output::{print_and_clear, print_text};
-use crate::pieces::push_more;
-use crate::selection::{Picker, Selection};
-use crate::spans::Spans;
-use crate::step::{Step, push_head, push_made, push_step, step_of};
-use crate::text::Text;
+use code_places::Spans;
+use job_looks::{Batch, Step, Text, push_made, push_more, push_step, push_step_head, step_of};
 use job_profile::{Run, Uses};
 use job_steps::Job;
 use refusal_notes::Lines;
 use std::alloc::{AllocError, Global};
 use std::io;
 use vcode_base::Rule;
+use why_command::{Picker, Selection};
 
 /// A list of instructions: the lines of the batch, where the instructions are, and how many are chosen in all.
 #[derive(Clone, Copy)]
@@ -73,7 +70,7 @@ fn push_listed(
 fn head_text(alloc: Global) -> Text {
     let mut text = Text::new(alloc);
     text.push_str("step by step\n");
-    push_head(&mut text);
+    push_step_head(&mut text);
     text
 }
 

@@ -1,0 +1,132 @@
+//! A run that is watched: for each vector that it holds where it comes from, and for each call where it was made.
+
+use crate::state::Traced;
+use job_history::{Next, Origin, Trail};
+use job_profile::{Run, Uses};
+use job_steps::Job;
+use std::alloc::{AllocError, Global};
+use vcode_base::Rule;
+
+/// A run with its trail.
+#[derive(Drop)]
+pub struct Watch {
+    /// The run, and what it uses.
+    pub uses: Uses<Global>,
+    /// Where its vectors come from, and where its calls were made.
+    pub trail: Trail<Global>,
+}
+
+impl Watch {
+    /// A run of a job by a rule, which has executed nothing.
+    ///
+    /// # Errors
+    ///
+    /// [`AllocError`] if memory was refused. The job is gone then.
+    pub fn new(alloc: Global, rule: Rule, job: Job<Global>) -> Result<Watch, AllocError> {
+        match Trail::new(alloc) {
+            Ok(trail) => Watch::again(alloc, rule, job, trail, 0),
+            Err(error) => {
+                drop(job);
+                Err(error)
+            }
+        }
+    }
+
+    /// A run of a job that has executed `count` instructions, which is known to have this trail then.
+    ///
+    /// # Errors
+    ///
+    /// [`AllocError`] if memory was refused. The job and the trail are gone then.
+    pub fn again(
+        alloc: Global,
+        rule: Rule,
+        job: Job<Global>,
+        trail: Trail<Global>,
+        count: u64,
+    ) -> Result<Watch, AllocError> {
+        match Uses::new(alloc, rule, job) {
+            Ok(mut uses) => {
+                uses.go_on(count);
+                Ok(Watch { uses, trail })
+            }
+            Err(error) => {
+                drop(trail);
+                Err(error)
+            }
+        }
+    }
+
+    /// The run.
+    pub fn run(&self) -> &Run<Global> {
+        self.uses.run()
+    }
+
+    /// The state of the run.
+    pub fn state(&self) -> Traced<'_> {
+        Traced {
+            run: self.run(),
+            trail: &self.trail,
+        }
+    }
+
+    /// The next instruction, if the job goes on.
+    pub fn next(&self) -> Option<Next> {
+        Next::of(self.run())
+    }
+
+    /// The origin of the entry at a depth, 0 at the top. `None` if there is none.
+    pub fn origin(&self, depth: usize) -> Option<Origin> {
+        self.trail.origin(self.run(), depth)
+    }
+
+    /// Executes the next instruction, which is this one; true if the job goes on.
+    ///
+    /// # Errors
+    ///
+    /// [`AllocError`] if memory was refused. The trail isn't that of the run then.
+    #[inline(always)]
+    pub fn take(&mut self, next: Next) -> Result<bool, AllocError> {
+        if !self.uses.step() {
+            return Ok(false);
+        }
+        self.trail.follow(next, self.uses.run())?;
+        Ok(true)
+    }
+
+    /// Executes the next instruction; true if the job goes on.
+    ///
+    /// # Errors
+    ///
+    /// As of [`Watch::take`].
+    pub fn step(&mut self) -> Result<bool, AllocError> {
+        match Next::of(self.run()) {
+            Some(next) => self.take(next),
+            None => Ok(false),
+        }
+    }
+
+    /// Executes `count` instructions, or all that are left before the end.
+    ///
+    /// # Errors
+    ///
+    /// As of [`Watch::take`].
+    pub fn go_to(&mut self, count: u64) -> Result<(), AllocError> {
+        for _ in 0..count {
+            if !self.step()? {
+                return Ok(());
+            }
+        }
+        Ok(())
+    }
+
+    /// The job, and the trail as far as the run has come.
+    pub fn into_parts(self) -> (Trail<Global>, Job<Global>) {
+        let Watch { uses, trail } = self;
+        (trail, uses.into_job())
+    }
+
+    /// The job.
+    pub fn into_job(self) -> Job<Global> {
+        self.uses.into_job()
+    }
+}

@@ -1,0 +1,8 @@
+//! The command line of `vjobs-why`, by `clap`: what is to be shown of which jobs, and in which form.
+#![tactic(auto)]
+
+mod command;
+mod selection;
+
+pub use command::{Asked, Form, Line, Look, Object, Unit, VjobsWhy, read_line};
+pub use selection::{LineRange, Picker, Selection};
