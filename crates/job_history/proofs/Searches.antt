@@ -80,7 +80,7 @@ next_place old mid new n end is on less h =
 
 -- ---- forward
 
--- no state of so many later ones is sought
+-- none of the next `done` states is sought
 pub record IsSearched (stops : List (Stop (List ℕ))) (calls done : ℕ) (old new : Place) : Type 0 where
   pub task_is : new.task ≡ old.task
   pub at_is : new.at ≡ old.at + done

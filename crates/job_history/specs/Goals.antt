@@ -20,8 +20,7 @@ meets stops calls p = goes_on p && (nat_le (calls_in p) calls || list_any (λ st
 pub record IsMissed (stops : List (Stop (List ℕ))) (calls : ℕ) (task : Task) (from to : ℕ) : Type 0 where
   pub each : (n : ℕ) → from ≤ n → n < to → meets stops calls (state_after task n) ≡ false
 
--- A search forward, over `most` states at most, ends at the first later state at which it is met; or after so many; or
--- at the end.
+-- A search forward ends at the first later state at which it is met, or after `most` states, or at the end.
 pub record EndsHere (stops : List (Stop (List ℕ))) (calls most : ℕ) (old new : Place) : Type 0 where
   pub task_is : new.task ≡ old.task
   pub later : old.at < new.at

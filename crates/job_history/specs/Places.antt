@@ -7,7 +7,7 @@ use Rattle.job_steps.specs.States.{JobValue, Task, ruled}
 use Rattle.job_steps.specs.Steps.{Progress}
 use Rattle.job_profile.specs.Walks.{goes_on}
 
--- a state of the run of a job: the one that so many others are before
+-- a state of the run of a job: the one with `at` states before it
 pub record Place : Type 0 where
   pub task : Task
   pub at : ℕ

@@ -239,7 +239,8 @@ impl<A: Allocator + Clone> History<A> {
         }
     }
 
-    /// Goes on from the first state to that of a number, and tells the last state before it at which it holds.
+    /// Goes on from the first state to that of a number. Answers the number of the last state before it at which it
+    /// holds.
     fn last_before(self, goal: &Goal<'_>, end: u64) -> Result<(History<A>, Option<u64>), AllocError>
         requires first { self.at ≡ 0 }
         requires on { AllGoOn self.task end }

@@ -48,7 +48,7 @@ held_until what task zero = 0
 held_until what task (suc n) =
     held_until what task n + (if holds_in what (state_after task n) then 1 else 0)
 
--- The run has come on to the first state at which it holds after so many others, from where the run was on.
+-- The run has come to the first state at which it holds after `skip` others at which it does, from where the run was.
 pub record IsAtStop (what : Stop (List ℕ)) (skip : ℕ) (old new : RunState) : Type 0 where
   pub from : ℕ
   pub to : ℕ
@@ -58,7 +58,7 @@ pub record IsAtStop (what : Stop (List ℕ)) (skip : ℕ) (old new : RunState) :
   pub holds : holds_in what (progress_of new) ≡ true
   pub others : held_until what old.task to ≡ held_until what old.task from + skip
 
--- The run is over. Of its states, from where it was on, it holds at no more than so many.
+-- The run is over. It holds at `skip` of its states at most, from where the run was.
 pub record IsAtNone (what : Stop (List ℕ)) (skip : ℕ) (old new : RunState) : Type 0 where
   pub from : ℕ
   pub to : ℕ

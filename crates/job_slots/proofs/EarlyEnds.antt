@@ -46,7 +46,8 @@ use Rattle.job_slots.proofs.Operands.{deep_enough}
 
 -- ---- a limit, with words that are counted up to the greatest number
 
-pub same_by : (limits : Limits) (op : Op) (many few : ℕ) (depth calls : ℕ) → ltb limits.words many ≡ ltb limits.words few →
+pub same_by : (limits : Limits) (op : Op) (many few : ℕ) (depth calls : ℕ) →
+    ltb limits.words many ≡ ltb limits.words few →
     memory_fault limits op many depth calls ≡ memory_fault limits op few depth calls
 unfolding memory_fault
 same_by limits op many few depth calls same =
@@ -211,8 +212,8 @@ no_ending line (Some fault) refusal e = absurd (none-some _ (sym e))
 no_ending line None (Some refusal) e = absurd (none-some _ (sym e))
 no_ending line None None e = (refl, refl)
 
-pub within_words : (limits : Limits) (op : Op) (words depth calls : ℕ) → memory_fault limits op words depth calls ≡ None →
-    words ≤ limits.words
+pub within_words : (limits : Limits) (op : Op) (words depth calls : ℕ) →
+    memory_fault limits op words depth calls ≡ None → words ≤ limits.words
 unfolding memory_fault
 within_words limits op words depth calls e = by (ltb limits.words words) refl e
   where

@@ -167,7 +167,8 @@ pub own_are_live : (job : ℕ) (blocks : JobBlocks) (ids : List ℕ) → AreOwn 
 own_are_live job blocks ids own =
     All-weaker (λ id. 0 < occurrences id ids) (λ id. IsLive blocks.memory id)
     (λ id some.
-    let named : occurrences id ids ≤ (slot_at blocks.memory id).count = own_named job blocks.memory ids own id in omega (arith, named, some)) ids
+    let named : occurrences id ids ≤ (slot_at blocks.memory id).count = own_named job blocks.memory ids own id in
+    omega (arith, named, some)) ids
     (listed ids ids (λ id. omega arith))
 
 -- ---- placed while the operands are there, whatever the rule

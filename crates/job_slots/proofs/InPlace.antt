@@ -1,6 +1,6 @@
 -- The operands of an instruction whose result is computed where it is placed.
-use Rattle.std.proofs.Common.{◌≡◌, ℕ, ℤ, ◌+◌, ◌<◌, ◌≤◌, Bool, false, List, [], ◌∷◌, length, Some, None, refl, sym, ◌∙◌, ap}
-use Rattle.std.proofs.Common.{subst, arith}
+use Rattle.std.proofs.Common.{◌≡◌, ℕ, ℤ, ◌+◌, ◌<◌, ◌≤◌, Bool, false, List, [], ◌∷◌, length, Some, None}
+use Rattle.std.proofs.Common.{refl, sym, ◌∙◌, ap, subst, arith}
 use Rattle.std.proofs.Common.{map, get_or, rules}
 use Rattle.std.specs.Prelude.{slice_index_or}
 use Rattle.std.proofs.lemmas.List.{get_or_default, length-map}
@@ -39,8 +39,8 @@ use Rattle.job_slots.proofs.Instructions.{length_by_kinds}
 use Rattle.job_slots.proofs.Operands.{deep_enough, same_top}
 use Rattle.job_slots.proofs.Readings.{read_on_top}
 
-module _ (law : StepsCanBegin ℕ) (counted : HeldIsCounted) (job : ℕ) (blocks : JobBlocks) (task : Task) (t : TrackState ℕ)
-    (run : IsRunningSlot (own_slots job blocks) task t) (verified : IsVerified task) (op : Op) (line : ℕ)
+module _ (law : StepsCanBegin ℕ) (counted : HeldIsCounted) (job : ℕ) (blocks : JobBlocks) (task : Task)
+    (t : TrackState ℕ) (run : IsRunningSlot (own_slots job blocks) task t) (verified : IsVerified task) (op : Op) (line : ℕ)
     (sources : List (List ℤ)) (next : IsNext task t.executed op line sources) (reads : is_constant op ≡ false)
     (tidy : IsTidy blocks.memory) where
   can : CanBegin task t.executed run.state t

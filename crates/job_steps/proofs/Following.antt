@@ -269,8 +269,8 @@ module _ (verified : TypedProgram) (frames : List Frame) (frame : Frame) (top : 
     next_is : LineIs (next_line can.call).item
     next_is call s =
         ap (λ (x : CodeLine). x.item)
-        (one_line (functions_of verified) frame call can.call (stop_top (functions_of verified) frames frame top settled)
-        s inner_call)
+        (one_line (functions_of verified) frame call can.call
+        (stop_top (functions_of verified) frames frame top settled) s inner_call)
 
     do_is : (o ≡ op.If → ⊥) → LineIs (code_item.Do (next_item can.call).item)
     do_is other call s =
@@ -393,7 +393,8 @@ callee_line fs function place f x hf hx =
 
 -- the callee of a CALL
 pub found_call : (verified : TypedProgram) (frame : Frame) (name : List ℕ) (c : Callee) (o : Option ℕ) →
-    StopAt (lines_from (functions_of verified) frame) → IsCallOf verified frame name c → o ≡ callee_at_line (functions_of verified) frame.function frame.place →
+    StopAt (lines_from (functions_of verified) frame) → IsCallOf verified frame name c →
+    o ≡ callee_at_line (functions_of verified) frame.function frame.place →
     Found verified o c
 found_call verified frame name c o stop call at =
     let s = stands_at (functions_of verified) frame call.call call.stands in

@@ -15,14 +15,14 @@ use Rattle.job_slots.proofs.next.next_at.Goals.{After-settled_line-line, After-t
 same : (g : Over) (c : After-settled_line-line g) → c.args.op ≡ op_of (instruction_in c.settled_line-line.result.item)
 same g c =
     op_is c.steps_can_begin.ensures c.args.turn.number c.args.blocks.now (ruled c.args.turn.rule c.args.job.now)
-    c.args.track.now c.requires.running c.requires.verified c.settled_line-line.result c.settled_line-line.ensures c.args.op
-    c.requires.op
+    c.args.track.now c.requires.running c.requires.verified c.settled_line-line.result c.settled_line-line.ensures
+    c.args.op c.requires.op
 
 pub top_operands-requires-clause-deep : goal.top_operands-requires-clause-deep
 top_operands-requires-clause-deep g c =
     deep c.steps_can_begin.ensures c.args.turn.number c.args.blocks.now (ruled c.args.turn.rule c.args.job.now)
-    c.args.track.now c.requires.running c.requires.verified c.settled_line-line.result c.settled_line-line.ensures c.args.op
-    (same g (goal.at.top_operands-requires-clause-deep g c).After-settled_line-line)
+    c.args.track.now c.requires.running c.requires.verified c.settled_line-line.result c.settled_line-line.ensures
+    c.args.op (same g (goal.at.top_operands-requires-clause-deep g c).After-settled_line-line)
 
 pub top_operands-requires-clause-live : goal.top_operands-requires-clause-live
 top_operands-requires-clause-live g c =
@@ -35,8 +35,8 @@ known : (g : Over) (c : After-top_operands g) →
     c.settled_line-line.result.number (contents (take c.top_operands.result.count c.top_operands.result.lists))
 known g c is =
     is_read c.steps_can_begin.ensures c.args.turn.number c.args.blocks.now (ruled c.args.turn.rule c.args.job.now)
-    c.args.track.now c.requires.running c.requires.verified c.settled_line-line.result c.settled_line-line.ensures c.args.op _
-    is
+    c.args.track.now c.requires.running c.requires.verified c.settled_line-line.result c.settled_line-line.ensures
+    c.args.op _ is
     (λ stack there.
     c.top_operands.ensures stack there
     ∙ (ap (λ (op : Op). words_of (top_entries (operand_count op) stack)) is

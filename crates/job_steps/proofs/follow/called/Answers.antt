@@ -15,7 +15,8 @@ unwrap-requires g c =
     c.verified.ensures.same in
     let at : c.callee.result ≡ callee_at (functions_of verified) frame.function frame.place =
     c.callee.ensures ∙ ap (λ (fs : List Function). callee_at fs frame.function frame.place) same in
-    (found_call verified frame c.requires.called.0 c.requires.called.1 c.callee.result c.requires.settled c.requires.called.2 at).some
+    (found_call verified frame c.requires.called.0 c.requires.called.1 c.callee.result c.requires.settled
+    c.requires.called.2 at).some
 
 pub returns : goal.returns
 returns g c = λ name callee call.
@@ -26,4 +27,5 @@ returns g c = λ name callee call.
     let at : c.callee.result ≡ callee_at (functions_of verified) frame.function frame.place =
     c.callee.ensures ∙ ap (λ (fs : List Function). callee_at fs frame.function frame.place) same in
     subst (λ (f : Frame). Stands (functions_of verified) f (first_call callee)) (sym c.first.ensures)
-    ((found_call verified frame name callee c.callee.result c.requires.settled call at).first c.unwrap.result c.unwrap.ensures)
+    ((found_call verified frame name callee c.callee.result c.requires.settled call at).first c.unwrap.result
+    c.unwrap.ensures)

@@ -21,8 +21,8 @@ use Rattle.job_slots.proofs.slot.Slot.begin_settled.Goals.{In-Ok, In-Err}
 
 pub ticket_of-requires-clause-has_grant : goal.ticket_of-requires-clause-has_grant
 ticket_of-requires-clause-has_grant g c =
-    has_grant c.args.turn.number c.args.blocks.now (ruled c.args.turn.rule c.args.job.now) c.args.self.now c.requires.shows
-    c.requires.live
+    has_grant c.args.turn.number c.args.blocks.now (ruled c.args.turn.rule c.args.job.now) c.args.self.now
+    c.requires.shows c.requires.live
 
 -- ---- the job ends
 
