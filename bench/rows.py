@@ -85,7 +85,9 @@ def begin(length: int) -> list[str]:
     stack.numbers(length)
     stack.take("MAKE_SEGDES", 1, "s")
     stride = next(it for it in (7919, 7907) if math.gcd(it, length) == 1)
-    for name, parts in [("x", []), ("y", [("AND INT", 15), ("+ INT", 1)]), ("p", [("% INT", length)])]:
+    vectors: list[tuple[str, list[tuple[str, int]]]] = [
+        ("x", []), ("y", [("AND INT", 15), ("+ INT", 1)]), ("p", [("% INT", length)])]
+    for name, parts in vectors:
         stack.progression(1 if name == "y" else stride)
         for word, number in parts:
             stack.with_all(word, number)

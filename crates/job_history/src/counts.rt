@@ -6,6 +6,9 @@ ghost use Rattle.job_history.specs.Kept.{AreCounts, AreNeeds};
 use job_profile::Run;
 use std::alloc::Allocator;
 
+/// How many words a state takes beside its entries and calls.
+const FIXED_WORDS: usize = 64;
+
 /// How many instructions were executed, the most words that were held and needed at one of them, the words that are
 /// held, and how many entries and calls there are.
 #[derive(Clone, Copy)]
@@ -36,6 +39,12 @@ impl Counts {
             depth: run.depth(),
             calls: run.calls(),
         }
+    }
+
+    /// How many words a state with these takes when it is kept, without the vectors of its entries.
+    pub(crate) fn size(self) -> usize {
+        let lists = self.calls.saturating_mul(4).saturating_add(self.depth);
+        lists.saturating_add(FIXED_WORDS)
     }
 }
 

@@ -44,9 +44,6 @@ impl<A: Allocator> Model for Kept<A> {
     } };
 }
 
-/// How many words a state takes beside its lists.
-const FIXED_WORDS: usize = 64;
-
 /// The bytes of a name, if there is one.
 fn copied<A: Allocator + Clone>(
     alloc: &A,
@@ -77,17 +74,16 @@ impl<A: Allocator + Clone> Kept<A> {
         let callers = copy_of(alloc, walk.trail.callers())?;
         let callee = copied(alloc, callee_of(&walk.run))?;
         let entries = mirror.entries()?;
-        let lists = frames.len().saturating_add(callers.len());
-        let size = lists.saturating_mul(2).saturating_add(entries.len());
+        let counts = Counts::of(&walk.run);
         Ok(Kept {
             entries,
             frames,
             callers,
             callee,
             next: Next::of(&walk.run),
-            counts: Counts::of(&walk.run),
+            counts,
             needs: Needs::of(&walk.run),
-            size: size.saturating_add(made).saturating_add(FIXED_WORDS),
+            size: counts.size().saturating_add(made),
         })
     }
 }

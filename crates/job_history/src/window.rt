@@ -8,6 +8,7 @@ ghost use Rattle.job_history.specs.Kept.{AreKept, IsBehind, IsUpTo, Shows};
 ghost use Rattle.job_history.specs.Places.{AllGoOn};
 ghost use Rattle.job_history.specs.Sound.{HasState, IsFilled, IsFirst, IsPassed, Mirrors};
 
+use crate::counts::Counts;
 use crate::kept::Kept;
 use crate::mirror::Mirror;
 use crate::walk::Walk;
@@ -16,7 +17,10 @@ use std::alloc::{AllocError, Allocator};
 use std::collections::VecDeque;
 
 /// The most states that are kept.
-pub(crate) const MOST_KEPT: usize = 524_288;
+const MOST_KEPT: usize = 524_288;
+
+/// The most words that are kept for each state of a run, in the mean.
+const MOST_WORDS: usize = 256;
 
 /// States that follow one another, the number of the first, how many words they take, and how many they may take.
 #[derive(Drop)]
@@ -48,6 +52,14 @@ impl<A: Allocator> Window<A> {
     /// The allocator.
     pub(crate) fn alloc(&self) -> &A {
         &self.alloc
+    }
+
+    /// How many words the states may take that are kept on the way to that of a number. They are twice as many as there
+    /// is room for, since later states may be smaller. Short runs have fewer, so that it takes at most some times as long
+    /// to keep states as to make the run.
+    fn words_until(&self, number: u64) -> usize {
+        let words = MOST_WORDS.saturating_mul(number as usize);
+        self.room.saturating_mul(2).min(words)
     }
 
     /// Forgets all states.
@@ -157,6 +169,32 @@ fn keep_present<A: Allocator + Clone>(
     window.keep(walk.at, kept)
 }
 
+/// Keeps the state of a run, which goes on up to the state of the number `to`. If the states up to there would take more
+/// than these words, each as many as this one, it would be forgotten again: no state is kept so far then.
+fn keep_likely<A: Allocator + Clone>(
+    walk: &Walk<A>,
+    mirror: &mut Mirror<A>,
+    window: &mut Window<A>,
+    to: u64,
+    words: usize,
+) -> Result<(), AllocError>
+    requires mirrors { Mirrors walk.now.run walk.now.at mirror.old.entries.items }
+    requires on { goes_on (progress_of walk.now.run) ≡ true }
+    requires next { IsUpTo walk.now.at window.old.first window.old.states.items }
+    ensures mirror { mirror.new.entries.items ≡ mirror.old.entries.items }
+    ensures next { OnOk result (IsUpTo (walk.now.at + 1) window.new.first window.new.states.items) }
+    ensures kept { OnOk result (AreKept walk.now.run.task window.old.first window.old.states.items
+        → AreKept walk.now.run.task window.new.first window.new.states.items) }
+{
+    let left = to.saturating_sub(walk.at) as usize;
+    if Counts::of(&walk.run).size().saturating_mul(left) > words {
+        window.clear();
+        mirror.take_made();
+        return Ok(());
+    }
+    keep_present(walk, mirror, window)
+}
+
 /// Executes the next instruction of a run that goes on after it.
 fn step_mirrored<A: Allocator + Clone>(
     walk: &mut Walk<A>,
@@ -203,8 +241,9 @@ fn keep_each<A: Allocator + Clone>(
     ensures { OnOk result (IsFilled walk.old.run.task to walk.new.run walk.new.at window.new.first
         window.new.states.items) }
 {
+    let words = window.words_until(to);
     for _ in from..to {
-        keep_present(walk, mirror, window)?;
+        keep_likely(walk, mirror, window, to, words)?;
         step_mirrored(walk, mirror)?;
     }
     Ok(())

@@ -8,18 +8,18 @@ loop-init g c =
     c.args.mirror.now.entries.items c.args.window.now.first c.args.window.now.states.items c.requires.from
     c.requires.empty
 
-pub keep_present-requires-clause-mirrors : goal.keep_present-requires-clause-mirrors
-keep_present-requires-clause-mirrors g c = c.loop.invariant.passed.mirrors
+pub keep_likely-requires-clause-mirrors : goal.keep_likely-requires-clause-mirrors
+keep_likely-requires-clause-mirrors g c = c.loop.invariant.passed.mirrors
 
-pub keep_present-requires-clause-on : goal.keep_present-requires-clause-on
-keep_present-requires-clause-on g c =
+pub keep_likely-requires-clause-on : goal.keep_likely-requires-clause-on
+keep_likely-requires-clause-on g c =
     let passed = c.loop.invariant.passed in
     on_now c.loop.walk.run c.loop.walk.at passed.mirrors.run_at
     (on_before c.args.walk.now.run.task c.loop.walk.run c.loop.walk.at c.loop.counter c.args.to c.requires.on
     passed.task_is passed.at_is c.loop-test.true)
 
-pub keep_present-requires-clause-next : goal.keep_present-requires-clause-next
-keep_present-requires-clause-next g c =
+pub keep_likely-requires-clause-next : goal.keep_likely-requires-clause-next
+keep_likely-requires-clause-next g c =
     up_to_now c.loop.counter c.loop.walk.at c.loop.window.first c.loop.window.states.items
     c.loop.invariant.passed.at_is c.loop.invariant.up_to
 
@@ -33,10 +33,10 @@ pub loop-preserved : goal.loop-preserved
 loop-preserved g c =
     let passed = c.loop.invariant.passed in
     keeping_next c.args.walk.now.run.task c.loop.walk.run c.step_mirrored.new.walk.run c.loop.walk.at c.loop.counter
-    c.step_mirrored.new.walk.at c.loop.window.first c.keep_present.new.window.first
-    c.step_mirrored.new.mirror.entries.items c.loop.window.states.items c.keep_present.new.window.states.items
-    c.loop.invariant.kept passed.task_is passed.at_is c.in_ok-step_mirrored.ensures c.in_ok-keep_present.ensures.kept
-    c.in_ok-keep_present.ensures.next
+    c.step_mirrored.new.walk.at c.loop.window.first c.keep_likely.new.window.first
+    c.step_mirrored.new.mirror.entries.items c.loop.window.states.items c.keep_likely.new.window.states.items
+    c.loop.invariant.kept passed.task_is passed.at_is c.in_ok-step_mirrored.ensures c.in_ok-keep_likely.ensures.kept
+    c.in_ok-keep_likely.ensures.next
 
 pub returns : goal.returns
 returns g c =
