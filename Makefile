@@ -3,8 +3,8 @@
 PREFIX = /usr/local
 MINUTES = 60
 
-.PHONY: all try run packing kinds why embed test names lint check gate page-test cluster cluster-hard models hostile soak
-.PHONY: bench fast try-compiler install uninstall dist dist-same clean help
+.PHONY: all try run packing kinds why dap embed test names lint check gate page-test cluster cluster-hard models hostile
+.PHONY: soak bench fast try-compiler install uninstall dist dist-same clean help
 
 ## Build, with every proof
 all: ## the program, at bin/vjobs; crates that don't use each other are proved side by side
@@ -34,6 +34,12 @@ why: ## bin/vjobs-why: the program that shows why a job ended
 	mkdir -p bin
 	cp crates/vjobs_why/out/vjobs_why bin/vjobs-why
 	.ci/stamp proved bin/vjobs-why
+
+dap: ## bin/vjobs-dap: the program by which an editor goes forward and back over a job
+	.ci/prove vjobs_dap
+	mkdir -p bin
+	cp crates/vjobs_dap/out/vjobs_dap bin/vjobs-dap
+	.ci/stamp proved bin/vjobs-dap
 
 embed: ## bin/libvjobs.a and .so for other languages; compares what embed/ prints with the reports
 	.ci/prove vjobs_embed
