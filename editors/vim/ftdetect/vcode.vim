@@ -1,0 +1,2 @@
+" Batches of VCODE.
+autocmd BufNewFile,BufRead *.vcode setfiletype vcode
