@@ -89,7 +89,7 @@ counted_over : ReleaseLaws → (rule : Rule) (job : ℕ) (taken : List ℕ) (id 
     id < length old.memory.slots → slot_at (state_after_releases old.memory taken) id ≡ empty_slot →
     AreOwn job old taken →
     words_by rule (held_words job old + length words)
-      (held_words job (with_block (with_releases taken old) job id words))
+    (held_words job (with_block (with_releases taken old) job id words))
     ≡ held_words job (blocks_beside rule taken old) + length words
 counted_over laws First job taken id words old within empty own = refl
 counted_over laws Second job taken id words old within empty own =
