@@ -20,7 +20,7 @@ use std::collections::VecDeque;
 const MOST_KEPT: usize = 524_288;
 
 /// The most words that are kept for each state of a run, in the mean.
-const MOST_WORDS: usize = 64;
+const MOST_WORDS: usize = 40;
 
 /// States that follow one another, the number of the first, how many words they take, and how many they may take.
 #[derive(Drop)]
