@@ -339,7 +339,11 @@ def wrong_times(program: Any) -> Iterator[str]:
     over = [*MOVES, "pause", "configurationDone", "launch"]
     ended = BEGIN + request(4, "terminate")
     yield from differ("after terminate", program, ended + all_of(over, 10) + LEAVE, [
-        *BEGUN, "terminate 4 ok", "terminated", *(f"{it} {seq}: .." for seq, it in enumerate(over, 10)),
+        *BEGUN, "terminate 4 ok", "terminated", *(f"{it} {seq}: the job is over" for seq, it in enumerate(over, 10)),
+        "disconnect 9 ok"])
+    unbegun = request(4, "terminate") + all_of(over, 10) + LEAVE
+    yield from differ("terminate before launch", program, unbegun, [
+        "terminate 4 ok", "terminated", *(f"{it} {seq}: the job is over" for seq, it in enumerate(over, 10)),
         "disconnect 9 ok"])
     after = request(4, "disconnect") + request(5, "threads") + b"Content-Length: x\r\n\r\n"
     yield from differ("after disconnect", program, BEGIN + after, [*BEGUN, "disconnect 4 ok"])

@@ -1,5 +1,5 @@
 -- What was read of a reader and fed.
-use Rattle.std.proofs.Common.{◌≡◌, ◌⊎◌, ℕ, ◌+◌, ◌-◌, ◌≤◌, Bool, true, false, List, [], ◌++◌, length, take, None, Some}
+use Rattle.std.proofs.Common.{◌≡◌, ◌⊎◌, ℕ, ◌+◌, ◌-◌, ◌≤◌, Bool, true, false, List, ◌++◌, length, take, None, Some}
 use Rattle.std.proofs.Common.{subst, arith, ◌∙◌, sym, ap, refl, inl, inr}
 use Rattle.std.specs.Prelude.{Result, Ok, Err, IfOk, OnOk, OnErr, IsErrOf}
 use Rattle.std.proofs.lemmas.Bool.{false≢true}
@@ -20,7 +20,7 @@ use Rattle.batch_front.specs.Inputs.{AreFirstBytes, IsBatchIn, ReadsFirstBytes, 
 use Rattle.batch_front.specs.Reports.{report_of, status_of}
 use Rattle.batch_front.specs.Runs.{WritesReport, WritesFront, WritesWhole}
 use Rattle.batch_front.proofs.Bytes.{front_at_stop, front_when_full, reads_more, reads_none}
-use Rattle.batch_front.proofs.Bytes.{rest_at_stop, rest_is_some, rest_when_full, some_rest, consumes_nothing}
+use Rattle.batch_front.proofs.Bytes.{rest_at_stop, rest_is_some, rest_when_full, some_rest}
 
 -- the fault of a result, and another one if it has none
 abbrev pub fault_in : {T : Type 0} → FrontFault → Result T FrontFault → FrontFault
@@ -33,10 +33,6 @@ pub record HasFed (old new : Option (List ℕ)) (feed : FeedState) (left : ℕ) 
   pub consumed : Consumes old new bytes
   pub come : HasCome feed bytes
   pub room : length bytes + left ≡ MOST_BATCH_BYTES + 1
-
--- nothing yet
-pub fed_nothing : (a : Option (List ℕ)) (feed : FeedState) → HasCome feed [] → HasFed a a feed (MOST_BATCH_BYTES + 1)
-fed_nothing a feed h = record { bytes = []; consumed = consumes_nothing a; come = h; room = omega arith }
 
 front_of : (n : ℕ) (xs ys : List ℕ) → n ≤ length xs → take n (xs ++ ys) ≡ take n xs
 front_of n xs ys h = grind (arith, common_steps)

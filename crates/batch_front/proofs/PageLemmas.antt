@@ -125,12 +125,6 @@ working works iff on = iff.0 on
 
 -- ---- what is sent
 
--- a writer at fault is sent nothing
-pub sends_nothing : {D : Type 0} (contents : D → Option (List ℕ)) (spent : ℕ) (kept : List ℕ) (writer : Device D)
-    → (HasWorked writer (interrupts_of writer + spent) → ⊥) → Sends contents spent kept writer writer
-sends_nothing contents spent kept writer none start said (inl (worked, h)) = absurd (none worked)
-sends_nothing contents spent kept writer none start said (inr h) = inr h
-
 -- what a call that writes bytes has done
 pub sends_bytes : {D : Type 0} (contents : D → Option (List ℕ)) (spent : ℕ) (kept : List ℕ) (old new : Device D)
     (result : Result (Unit {0}) FrontFault) → HasWorked old (interrupts_of old + spent)
@@ -165,14 +159,6 @@ sends_bytes contents spent kept old new r well all front worked fault at_write s
     absurd (not_both old (interrupts_of old + spent) well f)
 
 -- ---- what is put
-
-pub puts_nothing : {D : Type 0} {contents : D → Option (List ℕ)} {page : Page} {writer : Device D}
-    → Puts contents page writer page writer []
-puts_nothing {contents = contents} {page = page} {writer = writer} = record {
-  spent = refl;
-  said = λ start said h.
-      subst (λ (l : List ℕ). IsSaid contents page.spent start l page.bytes.items writer) (sym (append-nil said)) h;
-}
 
 -- one text after another
 pub puts_then : {D : Type 0} {contents : D → Option (List ℕ)} {p q r : Page} {a b c : Device D} {text more : List ℕ}

@@ -1,12 +1,10 @@
 -- The lines of a text whose first line that has words has none.
-use Rattle.std.proofs.Common.{◌≡◌, ℕ, zero, suc, ◌+◌, ◌-◌, ◌<◌, ◌≤◌, Bool, true, false, List, [], ◌∷◌, ◌++◌, length}
-use Rattle.std.proofs.Common.{refl, sym, ap, ◌∙◌, arith, subst, if◌then◌else◌}
-use Rattle.std.specs.Prelude.{nat_lt, ◌==◌, ◌||◌, ◌&&◌, codes}
+use Rattle.std.proofs.Common.{◌≡◌, ℕ, suc, ◌+◌, ◌-◌, Bool, true, false, List, [], ◌∷◌, length}
+use Rattle.std.proofs.Common.{refl, sym, ap, ◌∙◌, arith, if◌then◌else◌}
+use Rattle.std.specs.Prelude.{nat_lt, ◌==◌, ◌&&◌, codes}
 use Rattle.std.specs.List.{onto_first}
 use Rattle.std.specs.Str.{bytes_eq}
 use Rattle.std.proofs.lemmas.Bool.Decides.{nat_tests}
-use Rattle.std.proofs.lemmas.List.Elements.{All-head, All-tail}
-use Rattle.vcode_base.specs.Lines.{is_line_feed}
 use Rattle.vcode_base.specs.LineWords.{begins_plain, is_separator, with_plain, words_of_line}
 use Rattle.vcode_base.specs.declared.line_words.Parentheses.TheVariants.{StandInWords}
 use Rattle.batch_reader.specs.Headings.{BatchLine, heading_of, is_blank, is_second_rule, line_of, line_past_limit}
@@ -52,9 +50,6 @@ with_plain_isnt b false ws = some_words (b ∷ []) ws
 begins_word : (b : ℕ) (t : List ℕ) → is_separator b ≡ false → is_blank_text (b ∷ t) ≡ false
 unfolding words_of_line
 begins_word b t isnt = rw isnt (with_plain_isnt b (begins_plain StandInWords t) (words_of_line StandInWords t))
-
-isnt_feed : (b : ℕ) → is_separator b ≡ false → b == 10 ≡ false
-isnt_feed b isnt = grind (arith, nat_tests)
 
 -- ---- lines
 

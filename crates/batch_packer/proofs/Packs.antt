@@ -1,10 +1,10 @@
 -- A file joined to a batch.
 use Rattle.std.proofs.Common.{◌≡◌, ℕ, ◌+◌, ◌-◌, ◌<◌, ◌≤◌, Bool, true, false, List, [], ◌∷◌, ◌++◌, length}
 use Rattle.std.proofs.Common.{refl, sym, ap, ◌∙◌, arith, subst, append_assoc, length-append}
-use Rattle.std.specs.Prelude.{All, IsTrue, nat_lt, nat_le, ◌&&◌}
+use Rattle.std.specs.Prelude.{All, nat_lt, nat_le, ◌&&◌}
 use Rattle.std.proofs.lemmas.Bool.Decides.{nat_tests}
 use Rattle.std.proofs.lemmas.List.{append-nil}
-use Rattle.std.proofs.lemmas.List.Elements.{All-push, All-nil}
+use Rattle.std.proofs.lemmas.List.Elements.{All-push}
 use Rattle.vcode_base.specs.Lines.{line_feeds}
 use Rattle.vcode_base.specs.declared.limits.TheConstants.{MOST_BATCH_BYTES, MOST_JOBS}
 use Rattle.vcode_base.specs.declared.rule.Rule.{Rule}
@@ -108,10 +108,3 @@ pack_joined p q f files one room rule jobs bytes is job text =
           (sym rule) is.one_each)
           (subst (λ (r : Rule). IsOneJob r one) same job);
     }
-
-pub no_files : (p : PackState) (rule : Rule) → p.rule ≡ rule → p.jobs ≡ 0 → p.bytes ≡ rule_line rule → IsPack p []
-no_files p rule r j b = record {
-  bytes = b ∙ ap rule_line (sym r) ∙ sym (append-nil (rule_line p.rule));
-  jobs = j;
-  one_each = All-nil (IsOneJob p.rule);
-}

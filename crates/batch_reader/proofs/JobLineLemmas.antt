@@ -1,6 +1,5 @@
 -- What a JOB line's words give.
-use Rattle.std.proofs.Common.{◌≡◌, ℕ, ◌<◌, ◌≤◌, Bool, true, false, List, length, Some, None, refl, ap, ◌∙◌, arith}
-use Rattle.std.specs.Prelude.{nat_le}
+use Rattle.std.proofs.Common.{◌≡◌, ℕ, ◌≤◌, Bool, true, false, List, length, Some, None, refl, ap, ◌∙◌, arith}
 use Rattle.std.proofs.lemmas.Bool.Decides.{nat_tests}
 use Rattle.std.proofs.Math.Bridge.{le_prop}
 use Rattle.std.proofs.lemmas.Bool.{le-leb}
@@ -13,11 +12,6 @@ none : (words cells calls budget : ℕ) (b : Bool) (e : are_limits words cells c
     → limits_where words cells calls budget b e ≡ None
 none words cells calls budget true e n = cc
 none words cells calls budget false e n = refl
-
--- numbers outside their ranges are no limits
-pub no_limits : (words cells calls budget : ℕ) → are_limits words cells calls budget ≡ false
-    → limits_of (Some words) (Some cells) (Some calls) (Some budget) ≡ None
-no_limits words cells calls budget h = none words cells calls budget (are_limits words cells calls budget) refl h
 
 both : {a b : ℕ} {c d : ℕ} → IsProp ((a ≤ b) × (c ≤ d))
 both = hlevel le_prop
@@ -70,6 +64,3 @@ limits_are l = found l (are_limits l.words l.cells l.calls l.budget) refl (fits 
 
 pub number_is : (w : List ℕ) → length w ≤ 10 → number_of w ≡ decimal w
 number_is w short = rw (le-leb (length w) 10 short) refl
-
-pub number_of_long : (w : List ℕ) → 10 < length w → number_of w ≡ None
-number_of_long w long = let isnt : nat_le (length w) 10 ≡ false = grind (arith, nat_tests) in rw isnt refl

@@ -440,17 +440,6 @@ turns_at_end region ended room job l entry past is has shown = record {
 
 -- ---- after a refusal
 
-pub turns_behind_refusal : (region ended room : ℕ) (refusal : Refusal) (l : BatchLine) (s : JobStage)
-    → HasRoom ended room (Refused refusal) → StageShows region s (Refused refusal)
-    → Turns region ended room (Refused refusal) l (To s)
-turns_behind_refusal region ended room refusal l s has shown = record {
-  room_behind = room;
-  next = Refused refusal;
-  shown = shown;
-  has_room = has;
-  comes = λ rule ls. refl;
-}
-
 -- ---- past the limit
 
 -- a line past the limit refuses what isn't refused

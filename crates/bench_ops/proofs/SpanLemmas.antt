@@ -5,8 +5,8 @@ use Rattle.std.specs.Prelude.{All, nat_le, nat_lt}
 use Rattle.std.proofs.lemmas.Bool.{cases_lt, le-leb, lt-ltb}
 use Rattle.std.proofs.lemmas.Bool.Decides.{nat_tests}
 use Rattle.std.proofs.lemmas.List.Elements.{All-set}
-use Rattle.std.proofs.lemmas.List.Sums.{sum_by-set, get_or-le-sum_by}
-use Rattle.holes.specs.FreeWords.{is_free, AllFree, NoneFree, set_range}
+use Rattle.std.proofs.lemmas.List.Sums.{sum_by-set}
+use Rattle.holes.specs.FreeWords.{is_free, AllFree, set_range}
 use Rattle.holes.proofs.Ranges.{length-set_range, set_range_inside, set_range_before, set_range_behind}
 use Rattle.bench_ops.specs.declared.spans.Span.{Span}
 use Rattle.bench_ops.specs.Spans.{covers, AreApart}
@@ -34,18 +34,6 @@ covers_nothing word span empty = elim (cases_lt word span.place) [
   | inl before ↦ covers_before word span before
   | inr from ↦ covers_behind word span (omega arith)
 ]
-
-taken_word : (free : Bool) (covered : ℕ) → 1 ≤ covered → covered + cond free 1 0 ≤ 1 → free ≡ false
-taken_word true covered some few = absurd (omega arith)
-taken_word false covered some few = refl
-
--- the words of a range are not free
-pub none_free : (free : List Bool) (spans : List Span) (number : ℕ) (any : Span) → number < length spans →
-    AreApart free spans → NoneFree free (get_or spans number any).place (get_or spans number any).len
-none_free free spans number any within apart word from below =
-    let covered = covers_inside word (get_or spans number any) from below in
-    let least = get_or-le-sum_by (covers word) spans number any within in
-    taken_word (is_free free word) (sum_by (covers word) spans) (omega (arith, covered, least)) (apart word)
 
 -- a range in the place of another, if the words of both are set so in the region
 module _ (free : List Bool) (spans : List Span) (number : ℕ) (any : Span) (within : number < length spans)

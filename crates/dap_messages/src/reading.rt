@@ -339,7 +339,8 @@ fn head_of(message: Arguments<'_>) -> Option<(u64, &str)> {
     Some((seq, command))
 }
 
-/// Whether a body has so many brackets and commas that it isn't read, since its values could take too much memory.
+/// Whether a body isn't read, since it has more than `MOST_MARKS` brackets and commas: its values could take too much
+/// memory.
 fn is_too_large(body: &[u8]) -> bool {
     let marks = body
         .iter()

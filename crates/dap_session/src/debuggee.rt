@@ -20,10 +20,10 @@ use vcode_base::Rule;
 /// The most states that a run goes on by before a message is looked for.
 const MOST_AT_ONCE: u64 = 65_536;
 
-/// So many breakpoints take as long to look at as a state.
+/// How many breakpoints take as long to look at as a state.
 const STOPS: u64 = 16;
 
-/// An instruction over so many words takes as long as a state.
+/// How many words an instruction reads or writes in the time of a state.
 const WORDS: u64 = 4_096;
 
 /// The job that is debugged.

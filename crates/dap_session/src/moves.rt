@@ -89,7 +89,7 @@ impl Session {
         }
     }
 
-    /// Stops at the last state before the end, to which the job has come. Tells the end if it wasn't known.
+    /// Stops at the last state before the end, to which the job has come. The end is output if it was not known.
     fn come_to_end<W: Write>(&mut self, sender: &mut Sender<W>) -> io::Result<()> {
         match self.leave_end() {
             Ok(end) => {
@@ -100,7 +100,7 @@ impl Session {
         }
     }
 
-    /// Tells an end, if there is one to tell.
+    /// Outputs an end, if there is one.
     fn tell<W: Write>(&self, sender: &mut Sender<W>, end: Option<JobEnd>) -> io::Result<()> {
         let Some(end) = end else {
             return Ok(());
@@ -121,7 +121,7 @@ impl Session {
         }
     }
 
-    /// Tells that the job is over.
+    /// Says that the job is over.
     fn finish<W: Write>(&mut self, sender: &mut Sender<W>) -> io::Result<()> {
         self.stage = Stage::Over;
         let mut text = Text::new(self.alloc);
@@ -139,7 +139,7 @@ impl Session {
         }
     }
 
-    /// Tells that memory was refused for the run, which is over so.
+    /// Says that memory was refused for the run, which is over then.
     fn lose<W: Write>(&mut self, sender: &mut Sender<W>) -> io::Result<()> {
         self.stage = Stage::Over;
         output(

@@ -53,8 +53,8 @@ impl Session {
         asked: Asked<'_>,
         launch: &Launch,
     ) -> io::Result<()> {
-        if self.stage != Stage::New {
-            return refuse(sender, asked, Refusal::Again);
+        if let Err(refusal) = self.check_new() {
+            return refuse(sender, asked, refusal);
         }
         match launched(rt, launch) {
             Ok(debuggee) => {
@@ -68,12 +68,22 @@ impl Session {
         }
     }
 
+    /// Refuses to launch a job unless none was.
+    fn check_new(&self) -> Result<(), Refusal> {
+        match self.stage {
+            Stage::New => Ok(()),
+            Stage::Launched | Stage::Stopped | Stage::Moving(_) => Err(Refusal::Again),
+            Stage::Over => Err(Refusal::Over),
+        }
+    }
+
     /// Refuses to begin with a job unless one is launched and hasn't begun.
     fn check_launched(&self) -> Result<(), Refusal> {
         match self.stage {
             Stage::New => Err(Refusal::NoJob),
             Stage::Launched => Ok(()),
-            Stage::Stopped | Stage::Moving(_) | Stage::Over => Err(Refusal::Again),
+            Stage::Stopped | Stage::Moving(_) => Err(Refusal::Again),
+            Stage::Over => Err(Refusal::Over),
         }
     }
 

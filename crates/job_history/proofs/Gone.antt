@@ -176,18 +176,6 @@ sound_at old new to first states kept same run_at = record {
   };
 }
 
-pub sound_within : (run : RunState) (end first : ℕ) (states : List KeptState) (at to : ℕ) →
-    IsSound run end first states at → at ≤ to → to < end → IsSound run end first states to
-sound_within run end first states at to h le less = record {
-  run_at = h.run_at;
-  are_kept = h.are_kept;
-  has = record {
-    within = omega (arith, less);
-    first_is = λ lt. omega (arith, h.has.first_is (omega (arith, le, less)), le);
-    last_is = λ lt. h.has.last_is (omega (arith, le, less));
-  };
-}
-
 pub sound_first : (run : RunState) (n first : ℕ) (states : List KeptState) → IsFirst run n → states ≡ [] →
     IsSound run n first states 0
 sound_first run n first states h none = record {
@@ -217,11 +205,6 @@ sound_filled task target run at first states h = record {
 -- a run is at the state of a history, if that is its own
 pub come_to : (run : RunState) (end at : ℕ) → IsAt run end → at ≡ end → progress_of run ≡ state_after run.task at
 come_to run end at h same = h.come ∙ ap (state_after run.task) (sym same)
-
-pub same_task : (run other : RunState) (task : Task) (n : ℕ) → other ≡ first_run task → task ≡ run.task →
-    place_by other n ≡ place_by run n
-same_task run other task n first same =
-    ap (λ (r : RunState). place_by r n) first ∙ ap (λ (t : Task). let p : Place = record { task = t; at = n } in p) same
 
 pub all_anew : (run other : RunState) (task : Task) (target end : ℕ) → IsAt run end → target < end →
     other ≡ first_run task → task ≡ run.task → AllGoOn other.task (target + 1)

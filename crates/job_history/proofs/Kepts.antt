@@ -61,11 +61,6 @@ pub behind_fits : (first later : ℕ) (states rest : List KeptState) → first +
 behind_fits first later states rest fit b =
     omega (arith, fit, b.first_is, b.some, ap length b.rest_is, length-drop b.gone states)
 
-pub up_to_behind : (end first later : ℕ) (states rest : List KeptState) → first + length states ≡ end →
-    IsBehind first states later rest → IsUpTo end later rest
-up_to_behind end first later states rest whole b some =
-    omega (arith, whole, b.first_is, b.some, ap length b.rest_is, length-drop b.gone states)
-
 -- one more is kept
 pub kept_more : (task : Task) (number first with_it : ℕ) (states all : List KeptState) (kept : KeptState) →
     (0 < length states → with_it ≡ first) → with_it + length states ≡ number → all ≡ states ++ kept ∷ [] →

@@ -54,9 +54,9 @@ impl<A: Allocator> Window<A> {
         &self.alloc
     }
 
-    /// How many words the states may take that are kept on the way to that of a number. They are twice as many as there
-    /// is room for, since later states may be smaller. Short runs have fewer, so that it takes at most some times as long
-    /// to keep states as to make the run.
+    /// The most words of all states that are kept on the way to the state of this number. It is twice the room, since
+    /// later states may be smaller. A short run has fewer, so that to keep its states takes not much longer than to make
+    /// the run.
     fn words_until(&self, number: u64) -> usize {
         let words = MOST_WORDS.saturating_mul(number as usize);
         self.room.saturating_mul(2).min(words)
@@ -169,8 +169,10 @@ fn keep_present<A: Allocator + Clone>(
     window.keep(walk.at, kept)
 }
 
-/// Keeps the state of a run, which goes on up to the state of the number `to`. If the states up to there would take more
-/// than these words, each as many as this one, it would be forgotten again: no state is kept so far then.
+/// Keeps the state of a run, which goes on up to the state of the number `to`.
+///
+/// If each state up to there took as many words as this one, and all of them more than `words`, this one would be
+/// forgotten again: it isn't kept then, and neither is any state before it.
 fn keep_likely<A: Allocator + Clone>(
     walk: &Walk<A>,
     mirror: &mut Mirror<A>,

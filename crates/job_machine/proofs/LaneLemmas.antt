@@ -101,10 +101,6 @@ pub is_number : (rule : Rule) (jobs : List JobValue) (number : ℕ) (task : Task
 is_number rule jobs zero task e = absurd (none-some task e)
 is_number rule jobs (suc place) task e = grind (arith, job_at, slice_get_within, length-map)
 
--- a job without its rule
-abbrev plain : Task → JobValue
-plain task = record { name = task.name; verified = task.verified; limits = task.limits }
-
 -- a task of another rule isn't this one
 pub of_other_rule : (o : Option Task) (task : Task) (own rule : Rule) (job : JobValue) (same : Bool) → o ≡ Some task →
     task.rule ≡ own → same ≡ false → (IsTrue same ↔ (own ≡ rule)) → (IsTrue false ↔ (o ≡ Some (ruled rule job)))

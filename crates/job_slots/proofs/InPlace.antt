@@ -40,7 +40,8 @@ use Rattle.job_slots.proofs.Operands.{deep_enough, same_top}
 use Rattle.job_slots.proofs.Readings.{read_on_top}
 
 module _ (law : StepsCanBegin ℕ) (counted : HeldIsCounted) (job : ℕ) (blocks : JobBlocks) (task : Task)
-    (t : TrackState ℕ) (run : IsRunningSlot (own_slots job blocks) task t) (verified : IsVerified task) (op : Op) (line : ℕ)
+    (t : TrackState ℕ) (run : IsRunningSlot (own_slots job blocks) task t) (verified : IsVerified task)
+    (op : Op) (line : ℕ)
     (sources : List (List ℤ)) (next : IsNext task t.executed op line sources) (reads : is_constant op ≡ false)
     (tidy : IsTidy blocks.memory) where
   can : CanBegin task t.executed run.state t

@@ -4,7 +4,6 @@ use Rattle.std.proofs.Common.{sym, ◌∙◌, ap, subst, arith}
 use Rattle.std.proofs.lemmas.List.{length-set, get_or-set_same}
 use Rattle.vcode_base.specs.declared.outcome.Outcome.{Outcome}
 use Rattle.refcounts.specs.SharedState as shared
-use Rattle.refcounts.specs.SharedState.{empty_slot}
 use Rattle.job_memory.specs.JobBlocks.{JobBlocks, grant_of, own_slots, with_grant}
 use Rattle.job_steps.specs.Runs.{state_after}
 use Rattle.job_steps.specs.Standings.{Live}
@@ -14,7 +13,7 @@ use Rattle.job_slots.specs.declared.status.Status.{Status}
 use Rattle.job_slots.specs.declared.status.Status.TheVariants as status
 use Rattle.job_slots.specs.declared.status.Status.TheVariants.{Waiting, InFlight, Ended, Collected}
 use Rattle.job_slots.specs.Laws.{NewIsShown, RecalledIsShown}
-use Rattle.job_slots.specs.Slots.{SlotState, Shows, ShowsAs, IsRunningSlot, IsWaitingSlot, standing_of}
+use Rattle.job_slots.specs.Slots.{SlotState, Shows, ShowsAs, IsRunningSlot, IsWaitingSlot}
 use Rattle.job_slots.specs.Slots.{grant_by, recalled_status}
 use Rattle.job_slots.proofs.Holding.{none_held}
 
@@ -102,8 +101,3 @@ shows_admitted number blocks task slot shows is =
       grant = get_or-set_same blocks.grants (number - 1) (Some task.limits.words) None place;
       shown = runs_at_first (own_slots number blocks) task slot.trace (waits number blocks task slot shows is);
     }
-
-pub stands_admitted : (number : ℕ) (blocks : JobBlocks) (task : Task) (slot : SlotState) →
-    Shows number blocks task slot → slot.status ≡ Waiting → standing_of (live slot) ≡ Live 0
-stands_admitted number blocks task slot shows is =
-    ap (λ n. Live n) (waits number blocks task slot shows is).first.executed

@@ -142,11 +142,6 @@ pub stands_at : (functions : List Function) (frame : Frame) (call : Active) → 
 stands_at functions frame call s =
     stands_function functions frame call (slice_get functions frame.function) refl s.remains
 
--- the frame that it goes on at is at the same call
-pub stands_past : (functions : List Function) (frame next : Frame) (call : Active) → GoesOnAt functions frame next →
-    Stands functions frame call → Stands functions next call
-stands_past functions frame next call goes s = record { remains = goes.same ∙ s.remains }
-
 -- of this function
 pub record StandsIn (functions : List Function) (frame : Frame) (f : Function) : Type 0 where
   pub found : slice_get functions frame.function ≡ Some f

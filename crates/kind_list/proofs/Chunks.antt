@@ -59,12 +59,6 @@ joined low len high more low_fits high_fits few =
     ap (λ n. bit_or n low) (shl_whole high (2 * more) (2 * len) 64 high_fits (omega arith))
     ∙ or_shifted high (2 * len) low low_fits
 
-pub joined_none : (low len high : ℕ) → high < 2 ^ (2 * 0) → low ≡ high * 2 ^ (2 * len) + low
-joined_none low len high fits =
-    let none : high ≡ 0 = omega arith in
-    let e : 0 * 2 ^ (2 * len) + low ≡ low = omega arith in
-    sym (ap (λ n. n * 2 ^ (2 * len) + low) none ∙ e)
-
 pub joined_chunks : (len n more m : ℕ) (ks ls : List Kind) → kinds_of len n ≡ ks → kinds_of more m ≡ ls → IsChunk len n
     → IsChunk more m → len + more ≤ 32
     → IsChunk (len + more) (m * 2 ^ (2 * len) + n) × (kinds_of (len + more) (m * 2 ^ (2 * len) + n) ≡ ks ++ ls)

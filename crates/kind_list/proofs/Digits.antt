@@ -14,9 +14,6 @@ use Rattle.kind_list.specs.Packed.{digit_of, kind_of_digit, digits_of, kinds_of,
 
 -- ---- digits
 
-IsDigit : ℕ → Type 0
-IsDigit digit = digit < 3
-
 length-digits : (c n : ℕ) → length (digits_of c n) ≡ c
 unfolding digits_of
 length-digits zero n = refl

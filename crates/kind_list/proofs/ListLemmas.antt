@@ -3,7 +3,7 @@ use Rattle.std.proofs.Common.{◌≡◌, ℕ, zero, suc, ◌+◌, ◌-◌, ◌*�
 use Rattle.std.proofs.Common.{take, drop, get_or, refl, sym, ◌∙◌, ap, subst, arith}
 use Rattle.std.proofs.Math.Pow.{pow_mono}
 use Rattle.std.proofs.lemmas.Nat.{mod_below, pow_pos, shr-shr, shr_high}
-use Rattle.std.proofs.lemmas.List.{take-append-le, length-take-le, length_push, get_or_append_left, get_or_at}
+use Rattle.std.proofs.lemmas.List.{take-append-le, length-take-le, length_push, get_or_at}
 use Rattle.std.proofs.lemmas.List.{append_assoc, drop-append-le, drop-drop, drop-take, take-take, length-drop, take_all}
 use Rattle.vcode_base.specs.declared.kind.Kind.{Kind}
 use Rattle.kind_list.specs.Packed.{digits_of, kinds_of, IsPacked, IsChunk}
@@ -137,10 +137,6 @@ pushed_word len count bits one two ws vs last ks ls in' is chunk also many first
 
 pub same_word : (ws : List ℕ) (last place : ℕ) → place ≡ length ws → last ≡ get_or (ws ++ last ∷ []) place 0
 same_word ws last place is = sym (get_or_at ws last [] 0 place (sym is))
-
-pub word_before : (ws : List ℕ) (last place : ℕ) → place < length ws
-    → get_or ws place 0 ≡ get_or (ws ++ last ∷ []) place 0
-word_before ws last place lt = sym (get_or_append_left ws (last ∷ []) 0 place lt)
 
 -- the same, of the kinds of a chunk
 pub pushed_chunk : (len count bits new : ℕ) (ws : List ℕ) (last : ℕ) (ks ls : List Kind) → AreInWords len ws last

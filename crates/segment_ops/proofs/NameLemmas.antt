@@ -76,9 +76,6 @@ pub record Rises (is : List ℤ) (k : ℕ) (last : ℤ) : Type 0 where
   pub bounded : (j : ℕ) → j < k → (pos 0 ≤ℤ get_or is j (pos 0)) × (get_or is j (pos 0) ≤ℤ last)
   pub once : has_twice (take k is) ≡ false
 
-pub rises_none : (is : List ℤ) → Rises is 0 (negsuc 0)
-rises_none is = record { started = omega (arith, ints); bounded = λ j h. absurd (omega arith); once = refl }
-
 apart_above : (i j last : ℤ) → pos 0 ≤ℤ i → i ≤ℤ last → last <ℤ j → unsigned_abs i ≡ unsigned_abs j → ⊥
 apart_above i j last low high above same = omega (arith, ints)
 

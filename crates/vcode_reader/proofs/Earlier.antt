@@ -225,10 +225,6 @@ unfolding scan_all
 first_byte_fits s b rest all e h =
     text_before (scan_byte take s b) rest (subst (λ (bytes : List ℕ). FitsText s bytes) e h)
 
-pub at_end_fits : (s : Scan Parse) → FitsText s [] → FitsParse (end_word take s).found
-unfolding scan_all
-at_end_fits s h = h
-
 word_fits : (t : List ℕ) (s : Scan Parse) → 1 ≤ length t → FitsParse (ends_word take t s).found →
     FitsParse (take t s.line s.found)
 word_fits [] s some h = absurd (omega (arith, some))

@@ -80,11 +80,6 @@ pub next_room : {P : Type 0} (r : Scan P) (b m : ℕ) (rest all : List ℕ) → 
     r.line + line_feeds all < m → class_of b ≡ LineFeed → r.line + 1 < m
 next_room r b m rest all e h f = omega (arith, ap line_feeds e, line_feed_counts b rest f, h)
 
-pub later_room : {P : Type 0} (emit : Emit P) (r n : Scan P) (b m : ℕ) (rest all : List ℕ) → all ≡ b ∷ rest →
-    n ≡ scan_byte emit r b → r.line + line_feeds all < m → n.line + line_feeds rest < m
-later_room {P = P} emit r n b m rest all e f h =
-    omega (arith, ap line_feeds e, scan_all_lines emit r b rest, ap (λ (x : Scan P). x.line) f, h)
-
 pub later_same : {P : Type 0} (emit : Emit P) (r n : Scan P) (b : ℕ) (rest all : List ℕ) → all ≡ b ∷ rest →
     n ≡ scan_byte emit r b → scan_all emit r all ≡ scan_all emit n rest
 unfolding scan_all

@@ -19,10 +19,6 @@ pub plain_range : (b : ℕ) → 42 ≤ b → b ≤ 122 → is_plain (class_of b)
 unfolding class_of
 plain_range b low high = grind (arith, nat_tests)
 
-pub begins_plain : (t : List ℕ) → 1 ≤ length t → is_plain (class_of (get_or t 0 0)) ≡ true → 1 ≤ plain_length t
-begins_plain [] some h = absurd (omega arith)
-begins_plain (b ∷ bs) some h = rw h (omega arith)
-
 -- ---- one byte of a text
 
 pub plain_at : (t : List ℕ) (i : ℕ) → i < length t → is_plain (class_of (get_or t i 0)) ≡ true →

@@ -67,10 +67,6 @@ chosen_second : (b : Bool) (x y : Parse) → IsFaulty x → (cond b x y).fault �
 chosen_second true x y h k = not_faulty x h k
 chosen_second false x y h k = (refl, refl, k)
 
-chosen_first : (b : Bool) (x y : Parse) → IsFaulty y → (cond b x y).fault ≡ None → (b ≡ true) × (cond b x y ≡ x)
-chosen_first true x y h k = (refl, refl)
-chosen_first false x y h k = not_faulty y h k
-
 -- ---- parts of the grammar that grow
 
 all_then : {A : Type 0} (P : A → Type 0) (xs : List A) (y : A) → AllByRecursion P xs → P y →

@@ -31,6 +31,11 @@ abbrev pub unless : Option Fault → List Function → Result (List Function) Fa
 unless None fs = Ok fs
 unless (Some fault) fs = Err fault
 
+-- the fault of a text that ends where what began at this line is open
+abbrev pub unfinished_at : Option ℕ → Option Fault
+unfinished_at None = None
+unfinished_at (Some line) = Some (Unfinished, line)
+
 -- the reading of the bytes so far, if the text ends after them
 unfoldable pub outcome : Scan Parse → Result (List Function) Fault
 outcome s = let e = end_word take s in result_at_end e.found.fault e.comment e.found

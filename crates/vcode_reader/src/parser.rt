@@ -14,7 +14,7 @@ ghost use Rattle.vcode_reader.specs.Parsing.{with_count, with_callee, in_slot, o
 ghost use Rattle.vcode_reader.specs.Parsing.{after_name, after_return, inside, at_place, take};
 ghost use Rattle.vcode_reader.specs.Parsing.{is_no_name, no_value, int_of, kind_of, count_in};
 ghost use Rattle.vcode_reader.specs.Numbers.{natural_of, number_of, value_of};
-ghost use Rattle.vcode_reader.specs.Reading.{result_at_end, unless, Gives};
+ghost use Rattle.vcode_reader.specs.Reading.{at_end, result_at_end, unfinished_at, unless, Gives};
 ghost use Rattle.vcode_reader.specs.Room.{FitsParse};
 
 use crate::code::Draft;
@@ -30,7 +30,7 @@ use std::alloc::{AllocError, Allocator};
 use std::marker::Model;
 use std::mem;
 use vcode_base::limits::{LONGEST_NAME, MOST_ELEMENTS, MOST_FUNCTIONS, MOST_OPEN_IFS};
-use vcode_base::{FunctionName, Scalar, StackMove};
+use vcode_base::{FunctionName, Scalar, StackMove, innermost_open};
 
 /// The reading of the words so far, and what is open after them.
 #[derive(Drop)]
@@ -621,6 +621,19 @@ impl<A: Allocator + Clone> Parser<A> {
         Ok(())
     }
 
+    /// The line where the innermost thing that is open begins, apart from a comment.
+    fn open_line(&self) -> Option<u64>
+        ensures { at_end self.now.place self.now ≡ unless (unfinished_at result) self.now.functions }
+    {
+        match self.place {
+            Place::Outside => None,
+            Place::Name => Some(self.line),
+            Place::Inside | Place::InsideOrInt => Some(self.draft.innermost_line(self.line)),
+            Place::Words(_, _, begun) => Some(begun),
+            Place::Elements(_, _, opened) => Some(opened),
+        }
+    }
+
     /// The refusal if the text ends here: in a comment that begins at this line, or in none.
     fn refused_at_end(&self, comment: Option<u64>) -> Option<(CodeFault, u64)>
         ensures { result_at_end self.now.fault comment self.now ≡ unless result self.now.functions }
@@ -628,14 +641,7 @@ impl<A: Allocator + Clone> Parser<A> {
         if let Some(fault) = self.fault {
             return Some(fault);
         }
-        let line = match (comment, self.place) {
-            (Some(line), _) => line,
-            (None, Place::Outside) => return None,
-            (None, Place::Name) => self.line,
-            (None, Place::Inside | Place::InsideOrInt) => self.draft.innermost_line(self.line),
-            (None, Place::Words(_, _, begun)) => begun,
-            (None, Place::Elements(_, _, opened)) => opened,
-        };
+        let line = innermost_open(comment, self.open_line())?;
         Some((CodeFault::Unfinished, line))
     }
 

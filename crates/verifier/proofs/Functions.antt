@@ -1,5 +1,5 @@
 -- The body and the RET among a function's lines, and what the walk over the body says of the function.
-use Rattle.std.proofs.Common.{◌≡◌, ◌∙◌, ℕ, zero, suc, add-one, ◌+◌, ◌-◌, ◌<◌, ◌≤◌, false, cond, refl, sym, subst, ap}
+use Rattle.std.proofs.Common.{◌≡◌, ◌∙◌, ℕ, zero, suc, add-one, ◌+◌, ◌-◌, ◌<◌, ◌≤◌, cond, refl, sym, subst, ap}
 use Rattle.std.proofs.Common.{arith}
 use Rattle.std.proofs.Common.{List, [], ◌∷◌, ◌++◌, length, take, drop, drop-cons, get_or, length-append}
 use Rattle.std.proofs.Common.{Option, Some, Result, Ok}
@@ -13,11 +13,10 @@ use Rattle.vcode_base.specs.declared.kind.Kind.{Kind}
 use Rattle.vcode_base.specs.declared.instr.Instr.TheVariants.{Return}
 use Rattle.vcode_base.specs.Choices.{or_else}
 use Rattle.vcode_reader.specs.Trees.{Function, CodeLine, instruction_line, body_lines, lines_of}
-use Rattle.signatures.specs.Signatures.{kinds_of}
 use Rattle.verifier.specs.declared.fault.KindFault.{KindFault}
 use Rattle.verifier.specs.declared.fault.KindFault.TheVariants.{MainTakes}
 use Rattle.verifier.specs.Faults.{Fault}
-use Rattle.verifier.specs.First.{stack_after_body, is_main_with_operands, fault_at_return, fault_by_signature}
+use Rattle.verifier.specs.First.{stack_after_body, fault_at_return, fault_by_signature}
 use Rattle.verifier.specs.First.{function_fault, functions_fault, FaultIs, Finds}
 use Rattle.verifier.specs.Kinded.{Scope}
 use Rattle.vcode_base.specs.TextAnswers.{Fails}
@@ -106,15 +105,6 @@ module _ (scope : Scope) (f : Function) (takes : List Kind) (lines : List CodeLi
       (sym (walk_over_body scope f.body takes) ∙ (walk_over_lines ∙ h))
 
 -- ---- the fault of a function
-
--- a function whose signature may be its own has the fault of its body and its results
-pub of_body : (scope : Scope) (f : Function) (takes gives : List Kind)
-    → kinds_of scope.signatures f.name ≡ Some (takes, gives) → is_main_with_operands f takes ≡ false
-    → function_fault scope f ≡ fault_at_return gives f.ret (stack_after_body scope f.body takes)
-unfolding function_fault
-of_body scope f takes gives e h =
-    let ends = fault_at_return gives f.ret (stack_after_body scope f.body takes) in
-    ap (fault_by_signature scope f) e ∙ ap (λ b. cond b (Some (MainTakes, f.line)) ends) h
 
 at_return_err : (v : TextFault KindFault) (gives : List Kind) (ret : ℕ) (r : Result (List Kind) Fault) → Fails v r
     → FaultIs v (fault_at_return gives ret r)

@@ -15,7 +15,7 @@ use Rattle.vcode_base.specs.Kinds.{are_same_kinds}
 use Rattle.verifier.specs.First.{count_below, stack_with_move, stack_after_move, stack_after_arrow}
 use Rattle.verifier.specs.Kept.{SharedList, whole_list, OpenIf, begin_list}
 use Rattle.verifier.specs.Kept.{kept_list, kept_lists, AreShared, SharesAtMost}
-use Rattle.verifier.specs.Walk.{State, is_kept_last, others_of, state_after_else, state_with}
+use Rattle.verifier.specs.Walk.{State, is_kept_last, state_with}
 use Rattle.verifier.proofs.SameKinds.{same_by_decides, are_same_kinds-Decides}
 
 abbrev pub state_of : List Kind → List (List Kind) → State
@@ -67,14 +67,6 @@ front_of_whole : (ks : List Kind) (list : SharedList) (n : ℕ) → n ≤ list.s
 front_of_whole ks list n few within =
     let low = take-take n list.shared ks few in
     take-append-le n (take list.shared ks) list.above (long_enough n ks (take list.shared ks) within low) ∙ low
-
--- the entries become those of a list that shares some of them
-pub other_top : (ks : List Kind) (list : SharedList) (os : List OpenIf) → SharesAtMost list.shared os → AreShared ks os
-    → (kept_lists (whole_list ks list) os ≡ kept_lists ks os) × AreShared (whole_list ks list) os
-other_top ks list [] few shared = (refl, tt)
-other_top ks list (o ∷ os) few shared =
-    unseen ks (whole_list ks list) o.begin.shared (o ∷ os) (omega arith)
-    (front_of_whole ks list o.begin.shared few shared.0) shared
 
 -- ---- the list with which an IF began
 
@@ -148,21 +140,6 @@ first_below len rest news new now few =
     subst (λ (os : List OpenIf). SharesAtMost len os) (sym (ap reverse now ∙ first_of rest new)) few
 
 -- ---- an IF begins
-
--- an IF that began with these entries, inside the others
-pub begun_shared : (ks : List Kind) (o : OpenIf) (os : List OpenIf) → begin_list ks o ≡ ks → o.begin.shared ≤ length ks
-    → AreShared ks os → AreShared ks (o ∷ os)
-begun_shared ks o os begin within shared = (within, subst (λ (w : List Kind). AreShared w os) (sym begin) shared)
-
-pub begun_kept : (ks kept : List Kind) (list : SharedList) (o : OpenIf) (os : List OpenIf) → begin_list ks o ≡ ks
-    → o.kept ≡ list → whole_list ks list ≡ kept → kept_lists ks (o ∷ os) ≡ kept ∷ kept_lists ks os
-begun_kept ks kept list o os begin is whole =
-    (λ i. whole_list (begin i) (is i) ∷ kept_lists (begin i) os) ∙ ap (λ w. w ∷ kept_lists ks os) whole
-
--- all of these entries are shared
-pub all_shared : (ks : List Kind) (n : ℕ) (list : SharedList) → n ≡ length ks
-    → list ≡ record { shared = n; above = drop n ks } → whole_list ks list ≡ ks
-all_shared ks n list all is = ap (whole_list ks) is ∙ take-append-drop n ks
 
 -- ---- the parts of an IF
 
@@ -242,10 +219,6 @@ pub kept_shared : (ks base zs : List Kind) (first : OpenIf) (kept end : SharedLi
 kept_shared ks base zs first kept end p is few =
     shared_long base zs end kept is few (omega (arith, few, p.within))
 
-pub end_shared : (ks base zs : List Kind) (first : OpenIf) (kept end : SharedList) → Parts ks base first kept end
-    → zs ≡ whole_list base kept → end.shared ≤ kept.shared → end.shared ≤ length zs
-end_shared ks base zs first kept end p is few = shared_long base zs kept end is few p.within
-
 -- the test of what is kept, after the other part's end
 pub kept_tested : (ks base zs : List Kind) (first : OpenIf) (kept end : SharedList) (same : Bool)
     → Parts ks base first kept end → zs ≡ whole_list base end → kept.shared ≤ end.shared
@@ -261,25 +234,6 @@ pub end_tested : (ks base zs : List Kind) (first : OpenIf) (kept end : SharedLis
 end_tested ks base zs first kept end same p is few tested =
     turned tested (turned (same_wholes base zs kept end is few p.within)
     (straight_sides zs (whole_list base end) (kept_list ks first) ks (is ∙ p.kept_is) p.end_is))
-
--- the parts of an IF whose list that is kept shares no more entries than the one with which it began
-pub kept_here : (ks : List Kind) (o : OpenIf) (same : Bool) → o.begin.shared ≤ length ks
-    → o.kept.shared ≤ o.begin.shared → IsTrue same ↔ (drop o.kept.shared ks ≡ o.kept.above)
-    → IsTrue same ↔ (kept_list ks o ≡ ks)
-kept_here ks o same within few tested =
-    let n = o.begin.shared in
-    let end : SharedList = record { shared = n; above = drop n ks } in
-    let base = begin_list ks o in
-    let p = both_parts ks base o (o.begin, o.kept) n end refl within refl refl refl in
-    kept_tested ks base ks o o.kept end same p (sym p.end_is) few tested
-
--- what the IFs outside share is not changed
-pub untouched : (ks : List Kind) (o : OpenIf) (os : List OpenIf) → o.begin.shared ≤ length ks
-    → SharesAtMost o.begin.shared os → AreShared (begin_list ks o) os
-    → (kept_lists ks os ≡ kept_lists (begin_list ks o) os) × AreShared ks os
-untouched ks o os within few shared =
-    unseen (begin_list ks o) ks o.begin.shared os few
-    (sym (front_of_whole ks o.begin o.begin.shared (omega arith) within)) shared
 
 -- ---- the stack's state
 
@@ -325,23 +279,6 @@ repeated ks zs place count os old shared is e =
     (ap (λ z. kept_lists z os) e
     ∙ ((on_top ks (take count (drop place ks)) os shared).0 ∙ kept_of_state ks os old is))
 
--- the entries above a place are others
-pub low_same : (ks zs top : List Kind) (n : ℕ) → n ≤ length ks → zs ≡ take n ks ++ top → take n zs ≡ take n ks
-low_same ks zs top n within e =
-    let long = length-take-le n ks within in
-    ap (take n) e ∙ (take-append-le n (take n ks) top (omega (arith, long)) ∙ take-take n n ks (omega arith))
-
--- the entries, and those of the list that was kept last, have changed places
-pub swapped : (ks zs : List Kind) (os rest ns : List OpenIf) (first : OpenIf) (old : State)
-    → state_of ks (kept_lists ks os) ≡ old → os ≡ first ∷ rest → zs ≡ kept_list ks first
-    → kept_lists zs ns ≡ ks ∷ kept_lists (begin_list ks first) rest
-    → state_of zs (kept_lists zs ns) ≡ state_after_else old.kinds old.kept
-swapped ks zs os rest ns first old is e z k =
-    ap (λ x. state_of x (kept_lists zs ns)) z
-    ∙ (ap (state_of (kept_list ks first)) k
-    ∙ (ap (λ l. state_after_else ks (kept_lists ks l)) (sym e)
-    ∙ ap (λ (s : State). state_after_else s.kinds s.kept) is))
-
 -- whether the entries are those that were kept last
 pub kept_last : (ks : List Kind) (os rest : List OpenIf) (first : OpenIf) (old : State) (same : Bool)
     → state_of ks (kept_lists ks os) ≡ old → os ≡ first ∷ rest → IsTrue same ↔ (kept_list ks first ≡ ks)
@@ -349,16 +286,6 @@ pub kept_last : (ks : List Kind) (os rest : List OpenIf) (first : OpenIf) (old :
 kept_last ks os rest first old same is e decides =
     same_by_decides (kept_list ks first) ks same decides
     ∙ (ap (λ l. is_kept_last ks (kept_lists ks l)) (sym e) ∙ ap (λ (s : State). is_kept_last s.kinds s.kept) is)
-
--- both parts of an IF came to the same
-pub forgotten : (ks zs : List Kind) (os rest ns : List OpenIf) (first : OpenIf) (old : State)
-    → state_of ks (kept_lists ks os) ≡ old → os ≡ first ∷ rest → zs ≡ ks
-    → kept_lists zs ns ≡ kept_lists (begin_list ks first) rest
-    → state_of zs (kept_lists zs ns) ≡ state_of old.kinds (others_of old.kept)
-forgotten ks zs os rest ns first old is e same kept =
-    (λ i. state_of (same i) (kept i))
-    ∙ (ap (λ l. state_of ks (others_of (kept_lists ks l))) (sym e)
-    ∙ ap (λ (s : State). state_of s.kinds (others_of s.kept)) is)
 
 -- ---- instructions that take and give entries
 
