@@ -1,6 +1,6 @@
 -- Lemmas on the blocks of a region: a block that is written changes no other.
 use Rattle.std.proofs.Common.{◌≡◌, ◌≢◌, ◌⊎◌, ℕ, zero, suc, ℤ, pos, ◌+◌, ◌-◌, ◌<◌, ◌≤◌, List, length, take, drop, map}
-use Rattle.std.proofs.Common.{slice_index, slice_index_or, slice_set, replicate, ◌∷◌, Option, Some, None, is_some}
+use Rattle.std.proofs.Common.{slice_index, slice_index_or, slice_set, replicate, [], ◌∷◌, Option, Some, None, is_some}
 use Rattle.std.proofs.Common.{inl, inr, refl, sym, ap, subst, ◌∙◌, arith}
 use Rattle.std.proofs.Math.Nat.{le-max_left, le-max_right, max-le}
 use Rattle.std.proofs.lemmas.Bool.{cases_eq, cases_lt}
@@ -14,6 +14,7 @@ use Rattle.block_memory.specs.BlocksWritten.{IsWritten, IsMarked, IsLengthened}
 use Rattle.block_memory.specs.Writing.{IsApart, span_of, span_at as span_in, words_in}
 use Rattle.block_memory.specs.declared.span.Span.{Span}
 use Rattle.block_memory.proofs.Lists.{IsSome-in_range, same_some, None≢Some}
+use Rattle.block_memory.proofs.TableLemmas.{value_at-filled}
 use Rattle.block_memory.proofs.LayoutLemmas.{length-part, same_part, value_at-set_same, value_at-set_other}
 
 -- each span lies among the words, at home, and where it has words in the region its number stands at the first of them
@@ -606,6 +607,24 @@ pub slots_from-empty : (front : ℕ) (words : List ℤ) (n : ℕ)
     → slots_from front words (replicate n None) ≡ replicate n None
 slots_from-empty front words zero = refl
 slots_from-empty front words (suc n) = ap (λ slots. None ∷ slots) (slots_from-empty front words n)
+
+pub are_none : (front : ℕ) (words : List ℤ) (starts : List ℕ) (spans : List (Option Span))
+    (size words_capacity starts_capacity most : ℕ) → spans ≡ replicate most None → length words ≡ 0
+    → front + size ≤ words_capacity → size ≤ starts_capacity
+    → AreBlocks front words starts spans size words_capacity starts_capacity
+are_none front words starts spans size words_capacity starts_capacity most is none words_fit starts_fit = record {
+  home = λ n s there. absurd (empty n s there);
+  within = λ n s there. absurd (empty n s there);
+  reached = λ n s there past some. absurd (empty n s there);
+  started = λ n s there past some. absurd (empty n s there);
+  few = omega (arith, none);
+  words_room = words_fit;
+  starts_room = starts_fit;
+}
+  where
+    empty : (n : ℕ) (s : Span) → value_at spans n ≡ Some s → ⊥
+    empty n s there =
+        None≢Some s (sym (ap (λ l. value_at l n) is ∙ value_at-filled [] most n) ∙ there)
 
 -- what a block that begins at a place says of its span
 record BeginsBySpan (front : ℕ) (starts : List ℕ) (spans : List (Option Span)) (n place : ℕ) : Type 0 where

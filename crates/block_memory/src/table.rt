@@ -1,21 +1,24 @@
 //! A table of numbered places, each with a value or empty, that takes memory only when it is made.
-ghost use Rattle.std.specs.Prelude.{◌≡◌, ◌+◌, ◌<◌, ◌≤◌, length, replicate, slice_set, Some, None, IsSome};
-ghost use Rattle.std.specs.Prelude.{IfOk, option_copied};
+ghost use Rattle.std.specs.Prelude.{◌≡◌, ◌+◌, ◌<◌, ◌≤◌, ◌++◌, [], ◌∷◌, length, replicate, slice_set, Some, None};
+ghost use Rattle.std.specs.Prelude.{IfOk, IsSome, option_copied, vec_capacity};
+ghost use Rattle.slab.specs.Slab.{HasRoomFor, slab_len};
 ghost use Rattle.block_memory.specs.Table.{value_at, value_count};
+ghost use Rattle.block_memory.specs.TableInside.{AreKeys, places};
 
 use slab::Slab;
 use std::alloc::{AllocError, Allocator};
 use std::marker::Model;
 use std::mem;
 
-/// Values under numbers from 0 on. Each number is the place of a key in a fixed list, and the slab's entry under the
-/// key is marked with the value, or as empty.
+/// Values under numbers from 0 on. Each number that was used is the place of a key in the list of keys, and the slab's
+/// entry under the key is marked with the value, or as empty. The numbers after these, up to `count`, were never used.
 #[derive(Drop)]
 pub(crate) struct Table<T, A: Allocator> {
     entries: Slab<Option<T>, A>,
     keys: Vec<usize, A>,
-    // The numbers that are empty, the next one to be used last.
+    // The numbers that are empty again, the next one to be used last.
     vacant: Vec<usize, A>,
+    count: usize,
 }
 
 impl<T, A: Allocator> Model for Table<T, A> {
@@ -23,11 +26,36 @@ impl<T, A: Allocator> Model for Table<T, A> {
 
     ghost Value = { List (Option T) };
 
-    ghost use Rattle.block_memory.specs.TableInside.{places, IsTable};
+    ghost use Rattle.block_memory.specs.TableInside.{all_places, IsTable};
 
-    ghost view = { λ t. places t.entries t.keys.items };
+    ghost view = { λ t. all_places t.entries t.keys.items t.count };
 
-    ghost invariant = { λ t. IsTable t.entries t.keys.items t.vacant.items (vec_capacity t.vacant) };
+    ghost invariant = { λ t. IsTable t.entries t.keys.items t.vacant.items (vec_capacity t.keys) (vec_capacity t.vacant)
+        t.count };
+}
+
+/// Adds a place with a value, and answers its number.
+#[cold]
+#[inline(never)]
+fn push_place<T: Drop, A: Allocator>(
+    entries: &mut Slab<Option<T>, A>,
+    keys: &mut Vec<usize, A>,
+    value: T,
+) -> usize
+    requires entry_room { HasRoomFor entries.old 1 }
+    requires key_room { length keys.old.items < vec_capacity keys.old }
+    requires are_keys { AreKeys entries.old keys.old.items }
+    ensures number { result ≡ length keys.old.items }
+    ensures places { places entries.new keys.new.items ≡ places entries.old keys.old.items ++ Some value ∷ [] }
+    ensures are_keys { AreKeys entries.new keys.new.items }
+    ensures keys { length keys.new.items ≡ length keys.old.items + 1 }
+    ensures entries { slab_len entries.new ≡ slab_len entries.old + 1 }
+    ensures entry_room { entries.new.capacity ≡ entries.old.capacity }
+    ensures key_room { vec_capacity keys.new ≡ vec_capacity keys.old }
+{
+    let number = keys.len();
+    keys.push_reserved(entries.insert_reserved(Some(value)));
+    number
 }
 
 impl<T, A: Allocator> Table<T, A> {
@@ -38,17 +66,11 @@ impl<T, A: Allocator> Table<T, A> {
         T: Drop,
         ensures { IfOk result (λ t. t ≡ replicate count None) }
     {
-        let mut entries = Slab::with_capacity(alloc.clone()?, count)?;
-        let mut keys = Vec::with_capacity(alloc.clone()?, count)?;
-        let mut vacant = Vec::with_capacity(alloc, count)?;
-        for number in 0..count {
-            keys.push_reserved(entries.insert_reserved(None));
-            vacant.push_reserved(count - 1 - number);
-        }
         Ok(Table {
-            entries,
-            keys,
-            vacant,
+            entries: Slab::with_capacity(alloc.clone()?, count)?,
+            keys: Vec::with_capacity(alloc.clone()?, count)?,
+            vacant: Vec::with_capacity(alloc, count)?,
+            count,
         })
     }
 
@@ -57,7 +79,7 @@ impl<T, A: Allocator> Table<T, A> {
     pub(crate) fn len(&self) -> usize
         ensures { result ≡ length self.now }
     {
-        self.keys.len()
+        self.count
     }
 
     /// How many places have a value.
@@ -112,7 +134,8 @@ impl<T, A: Allocator> Table<T, A> {
         ensures inserted { (v : T) × F.post value result v × (self.new ≡ slice_set self.old result (Some v)) }
     {
         let Some(number) = self.vacant.pop() else {
-            unreachable!()
+            let number = self.keys.len();
+            return push_place(&mut self.entries, &mut self.keys, value(number));
         };
         self.entries[self.keys[number]] = Some(value(number));
         number
@@ -129,7 +152,7 @@ impl<T, A: Allocator> Table<T, A> {
         ensures inserted { self.new ≡ slice_set self.old result (Some value) }
     {
         let Some(number) = self.vacant.pop() else {
-            unreachable!()
+            return push_place(&mut self.entries, &mut self.keys, value);
         };
         self.entries[self.keys[number]] = Some(value);
         number
