@@ -1,7 +1,7 @@
 #!/usr/bin/env python3
 """Times the memory of a region: releases and makes of blocks of mixed lengths, in no order, and takes and gives of
 ranges of words beside a plain list of holes in C. It also prints the most memory that `bin/vjobs` takes for results
-that share a vector.
+that share a vector, and for limits of cells that jobs don't use.
 
 Run it at the top of the repository, after `make`. It builds crates/bench_ops (proving it and what it stands on, unless
 that was done) and bench/plain_holes.c. The words that packing moves are those of the same load by a plain model of
@@ -149,9 +149,9 @@ SHARED_RESULTS, SHARED_WORDS = 256, 1_000_000
 THREE_JOBS_BYTES = 3_000_000_000
 
 
-def job(results: int, code: list[str]) -> bytes:
+def job(results: int, code: list[str], limits: str = "1048576 300 1 300") -> bytes:
     signature = f"MAIN () -> ({' '.join(['INT'] * results)})"
-    lines = ["JOB t 1048576 300 1 300", "SIGNATURES", signature, "CODE", "FUNC MAIN", *code, "RET", "END"]
+    lines = [f"JOB t {limits}", "SIGNATURES", signature, "CODE", "FUNC MAIN", *code, "RET", "END"]
     return "".join(f"{line}\n" for line in lines).encode()
 
 
@@ -173,6 +173,17 @@ def print_shared_results() -> None:
         print(f"  {workers} workers: {of_many:.1f}, {of_few:.1f}, {of_three:.1f}")
 
 
+# ---- cells that no job uses
+
+JOBS, FEW_CELLS, MOST_CELLS = 64, 16, 4_096
+
+
+def print_unused_cells() -> None:
+    batches = (job(1, ["CONST INT 1"], f"100 {cells} 16 100") * JOBS for cells in (FEW_CELLS, MOST_CELLS))
+    few, many = (most_megabytes(batch, 1) for batch in batches)
+    print(f"megabytes of {JOBS} jobs of one entry, with limits of {FEW_CELLS} and of {MOST_CELLS} cells: {few:.1f}, {many:.1f}")
+
+
 def main() -> None:
     crate = TOP / "crates" / "bench_ops"
     subprocess.run(["rt", "run"], cwd=crate, check=True, stdout=subprocess.DEVNULL)
@@ -182,6 +193,7 @@ def main() -> None:
     print_blocks(lines[:2], LONG)
     print_takes(lines[2:])
     print_shared_results()
+    print_unused_cells()
 
 
 if __name__ == "__main__":
