@@ -31,7 +31,7 @@ const DEFAULT_ENTRIES: u32 = MOST_ENTRIES as u32;
 const DEFAULT_ENTRIES_TEXT: &str = "67108864";
 
 /// What a file may have at most.
-#[derive(Clone, Copy, PartialEq, Eq, Debug)]
+#[derive(Clone, Copy)]
 pub struct Bounds {
     /// The bytes of its text.
     pub bytes: u32,
@@ -40,7 +40,7 @@ pub struct Bounds {
 }
 
 /// What a file is.
-#[derive(Clone, Copy, PartialEq, Eq, Debug)]
+#[derive(Clone, Copy)]
 pub enum Form {
     /// The code of a job alone.
     Code,

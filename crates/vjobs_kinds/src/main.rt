@@ -7,8 +7,6 @@ ghost use Rattle.vcode_base.specs.declared.limits.TheConstants.{MOST_BATCH_BYTES
 mod batch;
 mod command;
 mod fault;
-#[cfg(test)]
-mod tests;
 
 use batch::{Filled, fill_signatures};
 use command::{Asked, Form, Line, VjobsKinds, read_line};
