@@ -181,7 +181,8 @@ JOBS, FEW_CELLS, MOST_CELLS = 64, 16, 4_096
 def print_unused_cells() -> None:
     batches = (job(1, ["CONST INT 1"], f"100 {cells} 16 100") * JOBS for cells in (FEW_CELLS, MOST_CELLS))
     few, many = (most_megabytes(batch, 1) for batch in batches)
-    print(f"megabytes of {JOBS} jobs of one entry, with limits of {FEW_CELLS} and of {MOST_CELLS} cells: {few:.1f}, {many:.1f}")
+    print(f"megabytes of {JOBS} jobs of one entry, with limits of {FEW_CELLS} and of {MOST_CELLS} cells: "
+          f"{few:.1f}, {many:.1f}")
 
 
 def main() -> None:
