@@ -130,7 +130,7 @@ fn lent_span<A: Allocator>(spans: &Table<Span, A>, lent: &[BlockId], index: usiz
     }
 }
 
-// Writes the words of a block at a place where no other is, lent those of other blocks.
+// Writes the words of a block at a place where no other is, and the words beside it, lent those of other blocks.
 fn write_lent<A: Allocator, R: Rewriter>(
     words: &mut [i64],
     spans: &Table<Span, A>,
@@ -138,17 +138,18 @@ fn write_lent<A: Allocator, R: Rewriter>(
     len: usize,
     lent: &[BlockId],
     writer: &R,
+    beside: &mut [i64],
 ) -> Result<(), R::Fault>
     requires within { place + len ≤ length words.old }
     requires few { length lent.now ≤ MOST_LENT }
     requires there { All (λ id. IsSome (value_at spans.now id)) lent.now }
     requires apart { All (λ id. IsApart (length words.old) place len (span_at spans.now id)) lent.now }
     requires can { R.can_rewrite writer.now (map (λ id. words_in words.old (span_at spans.now id)) lent.now)
-        (take len (drop place words.old)) }
+        (length beside.old) (take len (drop place words.old)) }
     ensures written { IsWritten words.old words.new place (take len (drop place words.new)) }
     ensures by_writer { let others = map (λ id. words_in words.old (span_at spans.now id)) lent.now in
         let old = take len (drop place words.old) in
-        MatchResult result (λ _. R.rewrites writer.now others old (take len (drop place words.new)))
+        MatchResult result (λ _. R.rewrites writer.now others beside.new old (take len (drop place words.new)))
         (λ fault. R.faults_over writer.now others old fault) }
 {
     let lent_spans = [
@@ -158,7 +159,7 @@ fn write_lent<A: Allocator, R: Rewriter>(
         lent_span(spans, lent, 3),
         lent_span(spans, lent, 4),
     ];
-    match write_block(words, place, len, &lent_spans[..lent.len()], writer) {
+    match write_block(words, place, len, &lent_spans[..lent.len()], writer, beside) {
         Ok(()) => Ok(()),
         Err(fault) => Err(fault),
     }
@@ -281,17 +282,19 @@ impl<A: Allocator> Blocks<A> {
         }
     }
 
-    // The word of a new block that a writer writes from the words of others, and what it answers.
+    // The word of a new block that a writer writes from the words of others, with the words beside it, and what it
+    // answers.
     fn written_word<W: Writer>(
         &self,
         lent: &[BlockId],
         writer: &W,
+        beside: &mut [i64],
     ) -> ([i64; 1], Result<(), W::Fault>)
         requires few { length lent.now ≤ MOST_LENT }
         requires there { All (λ id. IsSome (value_at self.now.slots id)) lent.now }
-        requires can { W.can_write writer.now (map (words_at self.now.slots) lent.now) 1 }
+        requires can { W.can_write writer.now (map (words_at self.now.slots) lent.now) (length beside.old) 1 }
         ensures { MatchResult result.1
-            (λ _. W.writes writer.now (map (words_at self.now.slots) lent.now) result.0)
+            (λ _. W.writes writer.now (map (words_at self.now.slots) lent.now) beside.new result.0)
             (λ fault. W.faults writer.now (map (words_at self.now.slots) lent.now) fault) }
     {
         let words = [
@@ -302,7 +305,7 @@ impl<A: Allocator> Blocks<A> {
             self.lent_words(lent, 4),
         ];
         let mut word = [0];
-        let written = writer.write(&words[..lent.len()], &mut word);
+        let written = writer.write(&words[..lent.len()], beside, &mut word);
         (word, written)
     }
 
@@ -349,25 +352,27 @@ impl<A: Allocator> Blocks<A> {
         number
     }
 
-    /// Puts a block of one word as `put_word` does. A writer writes the word, and is lent the words of other blocks for
-    /// that. Answers its number and what the writer answers. If that is a fault, nothing is said of the word.
+    /// Puts a block of one word as `put_word` does. A writer writes the word and those beside it, and is lent the words
+    /// of other blocks for that. Answers its number and what the writer answers. If that is a fault, nothing is said of
+    /// the word and those beside it.
     pub(crate) fn put_word_with<W: Writer>(
         &mut self,
         owner: usize,
         lent: &[BlockId],
         writer: &W,
+        beside: &mut [i64],
     ) -> (usize, Result<(), W::Fault>)
         requires number { value_count self.old.slots < length self.old.slots }
         requires few { length lent.now ≤ MOST_LENT }
         requires there { All (λ id. IsSome (value_at self.old.slots id)) lent.now }
-        requires can { W.can_write writer.now (map (words_at self.old.slots) lent.now) 1 }
+        requires can { W.can_write writer.now (map (words_at self.old.slots) lent.now) (length beside.old) 1 }
         ensures in_range { result.0 < length self.old.slots }
         ensures vacant { value_at self.old.slots result.0 ≡ None }
         ensures put { IsPutWith self.old self.new result.0 owner 0 0 1 (λ words. MatchResult result.1
-            (λ _. W.writes writer.now (map (words_at self.old.slots) lent.now) words)
+            (λ _. W.writes writer.now (map (words_at self.old.slots) lent.now) beside.new words)
             (λ fault. W.faults writer.now (map (words_at self.old.slots) lent.now) fault)) }
     {
-        let (word, written) = self.written_word(lent, writer);
+        let (word, written) = self.written_word(lent, writer, beside);
         let number = self.put_word(owner, &word);
         (number, written)
     }
@@ -398,9 +403,9 @@ impl<A: Allocator> Blocks<A> {
         number
     }
 
-    /// Puts a block of `len` words at a place where no block covers a word. A writer writes it, and is lent the words
-    /// of other blocks for that. Answers its number, which had none, and what the writer answers. If that is a fault,
-    /// nothing is said of the block's words.
+    /// Puts a block of `len` words at a place where no block covers a word. A writer writes it and the words beside it,
+    /// and is lent the words of other blocks for that. Answers its number, which had none, and what the writer answers.
+    /// If that is a fault, nothing is said of the words of the block and beside it.
     pub(crate) fn put_with<W: Writer>(
         &mut self,
         owner: usize,
@@ -408,23 +413,24 @@ impl<A: Allocator> Blocks<A> {
         len: usize,
         lent: &[BlockId],
         writer: &W,
+        beside: &mut [i64],
     ) -> (usize, Result<(), W::Fault>)
         requires number { value_count self.old.slots < length self.old.slots }
         requires within { place + len ≤ self.old.size }
         requires bare { IsBare self.old.slots place len }
         requires few { length lent.now ≤ MOST_LENT }
         requires there { All (λ id. IsSome (value_at self.old.slots id)) lent.now }
-        requires can { W.can_write writer.now (map (words_at self.old.slots) lent.now) len }
+        requires can { W.can_write writer.now (map (words_at self.old.slots) lent.now) (length beside.old) len }
         ensures in_range { result.0 < length self.old.slots }
         ensures vacant { value_at self.old.slots result.0 ≡ None }
         ensures put { IsPutWith self.old self.new result.0 owner place len len (λ words. MatchResult result.1
-            (λ _. W.writes writer.now (map (words_at self.old.slots) lent.now) words)
+            (λ _. W.writes writer.now (map (words_at self.old.slots) lent.now) beside.new words)
             (λ fault. W.faults writer.now (map (words_at self.old.slots) lent.now) fault)) }
     {
         let front = self.spans.len();
         let at = front + place;
         lengthen(&mut self.words, at + len, 0);
-        let written = write_lent(&mut self.words, &self.spans, at, len, lent, &writer);
+        let written = write_lent(&mut self.words, &self.spans, at, len, lent, &writer, beside);
         let span = Span {
             owner,
             place: at,
@@ -462,11 +468,12 @@ impl<A: Allocator> Blocks<A> {
         requires few { length lent.now ≤ MOST_LENT }
         requires lent_there { All (λ id. IsSome (value_at self.old.slots id)) lent.now }
         requires others { All (λ id. id ≢ number) lent.now }
-        requires can { R.can_rewrite rewriter.now (map (words_at self.old.slots) lent.now)
+        requires can { R.can_rewrite rewriter.now (map (words_at self.old.slots) lent.now) 0
             (words_at self.old.slots number) }
         ensures { IsRewrittenBy (words_at self.old.slots number) (λ words. self.new
             ≡ layout_after_rewrite self.old number words) (λ words. MatchResult result
-            (λ _. R.rewrites rewriter.now (map (words_at self.old.slots) lent.now) (words_at self.old.slots number) words)
+            (λ _. R.rewrites rewriter.now (map (words_at self.old.slots) lent.now) []
+            (words_at self.old.slots number) words)
             (λ fault. R.faults_over rewriter.now (map (words_at self.old.slots) lent.now)
             (words_at self.old.slots number) fault)) }
     {
@@ -478,6 +485,7 @@ impl<A: Allocator> Blocks<A> {
             span.len,
             lent,
             rewriter,
+            &mut [],
         )
     }
 

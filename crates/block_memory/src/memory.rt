@@ -1,6 +1,6 @@
 //! The contract of a vector memory.
 ghost use Rattle.std.specs.Prelude.{◌≡◌, ◌+◌, ◌<◌, ◌≤◌, ◌↔◌, ℕ, Bool, Option, Some, None, length, map, All, slice_get};
-ghost use Rattle.std.specs.Prelude.{IsTrue, IfOk, IfErr, OnErr, MatchResult, ◌≢◌};
+ghost use Rattle.std.specs.Prelude.{IsTrue, IfOk, IfErr, OnErr, MatchResult, ◌≢◌, []};
 ghost use Rattle.block_memory.specs.Content.{Content, IsLive, block_at, owner_at, words_at, used_words};
 ghost use Rattle.block_memory.specs.Content.{block_count, with_block, without_block};
 ghost use Rattle.block_memory.specs.Placing.{IsPlacedWith, IsRewrittenWith};
@@ -165,32 +165,34 @@ pub trait RewritableMemory: VectorMemory {
 
 /// A memory that lends the words of its blocks to what writes another: a [`Writer`] of a new one, or a [`Rewriter`].
 pub trait LendingMemory: VectorMemory {
-    /// Places a new block of `len` words, which fit, for an owner. A writer writes it where it lies, and is lent the
-    /// words of other blocks for that. There has to be a number without a block.
+    /// Places a new block of `len` words, which fit, for an owner. A writer writes it where it lies, and writes the
+    /// words of `beside`. It is lent the words of other blocks for that. There has to be a number without a block.
     ///
     /// # Errors
     ///
-    /// The fault that the writer finds. Nothing changes then.
+    /// The fault that the writer finds. The memory doesn't change then, and nothing is said of the words of `beside`.
     fn place_with<W: Writer>(
         &mut self,
         owner: usize,
         len: usize,
         lent: &[BlockId],
         writer: &W,
+        beside: &mut [i64],
     ) -> Result<BlockId, W::Fault>
         requires numbers { block_count (Self.content self.old) < length (Self.content self.old) }
         requires room { used_words (Self.content self.old) + len ≤ Self.room self.old }
         requires few { length lent.now ≤ MOST_LENT }
         requires live { All (IsLive (Self.content self.old)) lent.now }
-        requires can { W.can_write writer.now (map (words_at (Self.content self.old)) lent.now) len }
+        requires can { W.can_write writer.now (map (words_at (Self.content self.old)) lent.now) (length beside.old)
+            len }
         ensures placed { IfOk result (λ id. IsPlacedWith (Self.content self.old) (Self.content self.new) id owner len
-            (W.writes writer.now (map (words_at (Self.content self.old)) lent.now))) }
+            (W.writes writer.now (map (words_at (Self.content self.old)) lent.now) beside.new)) }
         ensures unchanged { OnErr result (Self.content self.new ≡ Self.content self.old) }
         ensures fault { IfErr result (W.faults writer.now (map (words_at (Self.content self.old)) lent.now)) }
         ensures same_room { Self.room self.new ≡ Self.room self.old };
 
-    /// Writes other words over those of a block. A rewriter writes them where they lie, and is lent the words of other
-    /// blocks for that.
+    /// Writes other words over those of a block. A rewriter writes them where they lie, and none beside them. It is
+    /// lent the words of other blocks for that.
     ///
     /// # Errors
     ///
@@ -205,11 +207,11 @@ pub trait LendingMemory: VectorMemory {
         requires few { length lent.now ≤ MOST_LENT }
         requires lent_live { All (IsLive (Self.content self.old)) lent.now }
         requires others { All (λ other. other ≢ id) lent.now }
-        requires can { R.can_rewrite rewriter.now (map (words_at (Self.content self.old)) lent.now)
+        requires can { R.can_rewrite rewriter.now (map (words_at (Self.content self.old)) lent.now) 0
             (words_at (Self.content self.old) id) }
         ensures rewritten { let lists = map (words_at (Self.content self.old)) lent.now in
             let old = words_at (Self.content self.old) id in
             IsRewrittenWith (Self.content self.old) (Self.content self.new) id (λ words. MatchResult result
-            (λ _. R.rewrites rewriter.now lists old words) (λ fault. R.faults_over rewriter.now lists old fault)) }
+            (λ _. R.rewrites rewriter.now lists [] old words) (λ fault. R.faults_over rewriter.now lists old fault)) }
         ensures same_room { Self.room self.new ≡ Self.room self.old };
 }

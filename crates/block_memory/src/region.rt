@@ -141,21 +141,22 @@ impl<P: Packing, A: Allocator> PackedRegion<P, A> {
         owner: usize,
         lent: &[BlockId],
         writer: &W,
+        beside: &mut [i64],
     ) -> Result<BlockId, Unwritten<W::Fault>>
         requires numbers { block_count self.old.content < length self.old.content }
         requires room { used_words self.old.content + 1 ≤ self.old.room }
         requires few { length lent.now ≤ MOST_LENT }
         requires live { All (IsLive self.old.content) lent.now }
-        requires can { W.can_write writer.now (map (words_at self.old.content) lent.now) 1 }
+        requires can { W.can_write writer.now (map (words_at self.old.content) lent.now) (length beside.old) 1 }
         ensures placed { IfOk result (λ id. IsPlacedWith self.old.content self.new.content id owner 1
-            (W.writes writer.now (map (words_at self.old.content) lent.now))) }
+            (W.writes writer.now (map (words_at self.old.content) lent.now) beside.new)) }
         ensures fault { IfErr result (λ u. IsPlacedWith self.old.content self.new.content u.id owner 1
             (λ words. W.faults writer.now (map (words_at self.old.content) lent.now) u.fault)) }
         ensures same_room { self.new.room ≡ self.old.room }
     {
         let _size = self.blocks.size();
         self.counts.last = 0;
-        let (number, written) = self.blocks.put_word_with(owner, lent, writer);
+        let (number, written) = self.blocks.put_word_with(owner, lent, writer, beside);
         self.used += 1;
         let id = BlockId::new(number);
         match written {
@@ -173,26 +174,29 @@ impl<P: Packing, A: Allocator> PackedRegion<P, A> {
         len: usize,
         lent: &[BlockId],
         writer: &W,
+        beside: &mut [i64],
     ) -> Result<BlockId, Unwritten<W::Fault>>
         requires numbers { block_count self.old.content < length self.old.content }
         requires room { used_words self.old.content + len ≤ self.old.room }
         requires few { length lent.now ≤ MOST_LENT }
         requires live { All (IsLive self.old.content) lent.now }
-        requires can { W.can_write writer.now (map (words_at self.old.content) lent.now) len }
+        requires can { W.can_write writer.now (map (words_at self.old.content) lent.now) (length beside.old) len }
         ensures placed { IfOk result (λ id. IsPlacedWith self.old.content self.new.content id owner len
-            (W.writes writer.now (map (words_at self.old.content) lent.now))) }
+            (W.writes writer.now (map (words_at self.old.content) lent.now) beside.new)) }
         ensures fault { IfErr result (λ u. IsPlacedWith self.old.content self.new.content u.id owner len
             (λ words. W.faults writer.now (map (words_at self.old.content) lent.now) u.fault)) }
         ensures same_room { self.new.room ≡ self.old.room }
     {
         if len == 1 {
-            return self.put_word_with(owner, lent, writer);
+            return self.put_word_with(owner, lent, writer, beside);
         }
         let _size = self.blocks.size();
         let place = self
             .places
             .take_room::<P>(&mut self.blocks, self.covered, len, &mut self.counts);
-        let (number, written) = self.blocks.put_with(owner, place, len, lent, writer);
+        let (number, written) = self
+            .blocks
+            .put_with(owner, place, len, lent, writer, beside);
         self.used += len;
         self.covered += len;
         let id = BlockId::new(number);
@@ -301,8 +305,9 @@ impl<P: Packing, A: Allocator> LendingMemory for PackedRegion<P, A> {
         len: usize,
         lent: &[BlockId],
         writer: &W,
+        beside: &mut [i64],
     ) -> Result<BlockId, W::Fault> {
-        match self.put_with(owner, len, lent, writer) {
+        match self.put_with(owner, len, lent, writer, beside) {
             Ok(id) => Ok(id),
             Err(unwritten) => {
                 let Unwritten { id, fault } = unwritten;

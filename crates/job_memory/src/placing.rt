@@ -14,11 +14,12 @@ use std::alloc::Allocator;
 
 impl<A: Allocator> JobMemory<A> {
     /// A new block of `len` words for a job whose grant has room for them, with one reference. A writer writes it, and
-    /// is lent the words of other blocks for that. There has to be a number without a block.
+    /// writes the words of `beside`. It is lent the words of other blocks for that. There has to be a number without a
+    /// block.
     ///
     /// # Errors
     ///
-    /// The fault that the writer finds. Nothing changes then.
+    /// The fault that the writer finds. The memory doesn't change then, and nothing is said of the words of `beside`.
     #[inline(always)]
     pub fn place_with<W: Writer>(
         &mut self,
@@ -26,22 +27,23 @@ impl<A: Allocator> JobMemory<A> {
         len: usize,
         lent: &[BlockId],
         writer: &W,
+        beside: &mut [i64],
     ) -> Result<BlockId, W::Fault>
         requires has_grant { HasGrant self.old job }
         requires numbers { block_count self.old.memory < length self.old.memory.slots }
         requires room { held_words job self.old + len ≤ words_of (grant_of self.old job) }
         requires few { length lent.now ≤ MOST_LENT }
         requires live { AreLive self.old.memory lent.now }
-        requires can { W.can_write writer.now (map (words_at self.old.memory) lent.now) len }
+        requires can { W.can_write writer.now (map (words_at self.old.memory) lent.now) (length beside.old) len }
         ensures placed { IfOk result (λ id. IsPlacedWith self.old self.new job id len
-            (W.writes writer.now (map (words_at self.old.memory) lent.now))) }
+            (W.writes writer.now (map (words_at self.old.memory) lent.now) beside.new)) }
         ensures unchanged { OnErr result (self.new ≡ self.old) }
         ensures fault { IfErr result (W.faults writer.now (map (words_at self.old.memory) lent.now)) }
     {
         making_changes_only_own();
         granted_words_are_there();
         let _reserved = self.book.granted();
-        match self.memory.make_with(job, len, lent, writer) {
+        match self.memory.make_with(job, len, lent, writer, beside) {
             Ok(id) => {
                 let Ok(()) = self.book.charge(job, len) else {
                     unreachable!()

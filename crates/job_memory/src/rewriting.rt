@@ -1,6 +1,6 @@
 //! Writing a new block over one that goes.
 ghost use Rattle.std.specs.Prelude.{◌≡◌, ◌≢◌, ◌+◌, ◌<◌, ◌≤◌, ◌↔◌, length, map, All, IsTrue, IfOk, IfErr};
-ghost use Rattle.std.specs.Prelude.{MatchResult};
+ghost use Rattle.std.specs.Prelude.{MatchResult, []};
 ghost use Rattle.block_memory.specs.declared.writer.TheConstants.{MOST_LENT};
 ghost use Rattle.refcounts.specs.Making.{words_at};
 ghost use Rattle.refcounts.specs.SharedState.{AreLive, empty_slot, slot_at, occurrences, state_after_releases};
@@ -54,7 +54,8 @@ impl<A: Allocator> JobMemory<A> {
     }
 
     /// One reference less to each of these blocks of a job and a new block for the job, as `exchange_at`. A rewriter
-    /// writes the words of the new block over those of the other, and is lent the words of further blocks for that.
+    /// writes the words of the new block over those of the other, and none beside them. It is lent the words of further
+    /// blocks for that.
     ///
     /// # Errors
     ///
@@ -75,13 +76,13 @@ impl<A: Allocator> JobMemory<A> {
         requires few { length lent.now ≤ MOST_LENT }
         requires live { AreLive self.old.memory lent.now }
         requires others { All (λ other. other ≢ id) lent.now }
-        requires can { R.can_rewrite rewriter.now (map (words_at self.old.memory) lent.now)
+        requires can { R.can_rewrite rewriter.now (map (words_at self.old.memory) lent.now) 0
             (words_at self.old.memory id) }
         ensures fresh { (id < length self.old.memory.slots)
             × (slot_at (state_after_releases self.old.memory taken.now) id ≡ empty_slot) }
         ensures exchanged { IfOk result (λ _. IsRewrittenWith self.old
             (with_memory self.old (state_after_releases self.old.memory taken.now)) self.new job id
-            (R.rewrites rewriter.now (map (words_at self.old.memory) lent.now) (words_at self.old.memory id))) }
+            (R.rewrites rewriter.now (map (words_at self.old.memory) lent.now) [] (words_at self.old.memory id))) }
         ensures fault { IfErr result (λ fault. IsRewrittenWith self.old self.old self.new job id
             (λ words. R.faults_over rewriter.now (map (words_at self.old.memory) lent.now)
             (words_at self.old.memory id) fault)) }
@@ -111,11 +112,11 @@ impl<A: Allocator> JobMemory<A> {
         requires few { length lent.now ≤ MOST_LENT }
         requires live { AreLive self.old.memory lent.now }
         requires others { All (λ other. other ≢ id) lent.now }
-        requires can { R.can_rewrite rewriter.now (map (words_at self.old.memory) lent.now)
+        requires can { R.can_rewrite rewriter.now (map (words_at self.old.memory) lent.now) 0
             (words_at self.old.memory id) }
         ensures { let lists = map (words_at self.old.memory) lent.now in
-            IsRewrittenWith self.old self.old self.new (slot_at self.old.memory id).owner id (λ words. MatchResult result
-            (λ _. R.rewrites rewriter.now lists (words_at self.old.memory id) words)
+            IsRewrittenWith self.old self.old self.new (slot_at self.old.memory id).owner id
+            (λ words. MatchResult result (λ _. R.rewrites rewriter.now lists [] (words_at self.old.memory id) words)
             (λ fault. R.faults_over rewriter.now lists (words_at self.old.memory id) fault)) }
     {
         self.memory.rewrite_with(id, lent, rewriter)

@@ -210,45 +210,44 @@ written_apart memory id slot (first ∷ ids) none =
     ap (λ (m : SharedState). state_after_releases m ids) once
     ∙ written_apart (state_after_release memory first) id slot ids (none_after id first ids none)
 
--- the exchange, and the words that count as held and needed at it
+-- an exchange that releases first, and the words that count as held and needed at it
 pub record HasReplaced (rule : Rule) (job : ℕ) (taken : List ℕ) (id : ℕ) (words : List ℤ) (old new : JobBlocks) : Type 0
   where
-    pub is : IsExchanged rule job taken id words old new
+    pub is : IsExchanged Second job taken id words old new
     pub counted : words_by rule (held_words job old + length words) (held_words job new)
         ≡ held_words job (blocks_beside rule taken old) + length words
-    pub grants : new.grants ≡ old.grants
 
-replaced : ReleaseLaws → (rule : Rule) (job : ℕ) (taken : List ℕ) (id : ℕ) (words : List ℤ) (old : JobBlocks) →
-    id < length old.memory.slots → slot_at old.memory id ≡ empty_slot → AreOwn job old taken →
-    HasReplaced rule job taken id words old (with_releases taken (with_block old job id words))
-replaced laws First job taken id words old within empty own =
-    record { is = (by_placing laws job taken id words old within empty own).is; counted = refl; grants = refl }
-replaced laws Second job taken id words old within empty own =
-    let none : occurrences id taken ≡ 0 = omega (arith, own id, none_here job old.memory id empty) in
-    let free : slot_at (state_after_releases old.memory taken) id ≡ empty_slot =
-    released_apart old.memory id taken none ∙ empty in
+counted_after : ReleaseLaws → (rule : Rule) (job : ℕ) (taken : List ℕ) (id : ℕ) (words : List ℤ) (old : JobBlocks) →
+    id < length old.memory.slots → slot_at (state_after_releases old.memory taken) id ≡ empty_slot →
+    AreOwn job old taken →
+    words_by rule (held_words job old + length words)
+    (held_words job (with_block (with_releases taken old) job id words))
+    ≡ held_words job (blocks_beside rule taken old) + length words
+counted_after laws First job taken id words old within empty own = refl
+counted_after laws Second job taken id words old within empty own =
     let less = lower laws job old taken own in
     let adds = adds_block job (state_after_releases old.memory taken) id (new_slot job words)
-    (omega (arith, within, less.numbers)) free refl refl in
-    let same : with_releases taken (with_block old job id words) ≡ with_block (with_releases taken old) job id words =
-    ap (with_memory old) (written_apart old.memory id (new_slot job words) taken none) in
-    subst (HasReplaced Second job taken id words old) (sym same) (record {
-      is = (by_releasing laws job taken id words old within free own).is;
-      counted = omega (arith, adds.held);
-      grants = refl;
+    (omega (arith, within, less.numbers)) empty refl refl in
+    omega (arith, adds.held)
+
+pub placed_after : ReleaseLaws → (rule : Rule) (job : ℕ) (taken : List ℕ) (id : ℕ) (words : List ℤ)
+    (old new : JobBlocks) → id < length old.memory.slots →
+    slot_at (state_after_releases old.memory taken) id ≡ empty_slot → AreOwn job old taken →
+    new ≡ with_block (with_releases taken old) job id words → HasReplaced rule job taken id words old new
+placed_after laws rule job taken id words old new within empty own is =
+    subst (HasReplaced rule job taken id words old) (sym is) (record {
+      is = record { within = within; free = empty; exchanged = refl };
+      counted = counted_after laws rule job taken id words old within empty own;
     })
 
-pub placed_then_released : ReleaseLaws → (rule : Rule) (job : ℕ) (taken ids : List ℕ) (id : ℕ) (words : List ℤ)
-    (old placed new : JobBlocks) → id < length old.memory.slots → slot_at old.memory id ≡ empty_slot →
-    placed ≡ with_block old job id words → ids ≡ taken → new ≡ with_releases ids placed → AreOwn job old taken →
+pub placed_before : ReleaseLaws → (rule : Rule) (job : ℕ) (taken : List ℕ) (id : ℕ) (words : List ℤ)
+    (old new : JobBlocks) → AreOwn job old taken → HasExchanged First job taken id words old new →
     HasReplaced rule job taken id words old new
-placed_then_released laws rule job taken ids id words old placed new within empty placed_is ids_are new_is own =
-    let is : new ≡ with_releases taken (with_block old job id words) =
-    new_is
-    ∙ (ap (λ (xs : List ℕ). with_releases xs placed) ids_are
-    ∙ ap (λ (b : JobBlocks). with_releases taken b) placed_is) in
-    subst (HasReplaced rule job taken id words old) (sym is) (replaced laws rule job taken id words old within empty
-    own)
+placed_before laws rule job taken id words old new own has =
+    let none : occurrences id taken ≡ 0 = omega (arith, own id, none_here job old.memory id has.is.free) in
+    placed_after laws rule job taken id words old new has.is.within
+    (released_apart old.memory id taken none ∙ has.is.free) own
+    (has.is.exchanged ∙ ap (with_memory old) (written_apart old.memory id (new_slot job words) taken none))
 
 -- ---- without operands
 

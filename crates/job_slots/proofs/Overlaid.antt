@@ -6,27 +6,22 @@ use Rattle.std.proofs.lemmas.Bool.Decides.{nat_tests}
 use Rattle.std.proofs.lemmas.List.{set-set, get_or-set_same, get_or_default, length-set}
 use Rattle.std.specs.Prelude.{All, Option, Some}
 use Rattle.std.proofs.lemmas.List.Elements.{All-map, All-cons, All-head, All-tail}
-use Rattle.vcode_base.specs.declared.op.Op.{Op}
-use Rattle.vcode_base.specs.declared.rule.Rule.{Rule}
-use Rattle.vcode_base.specs.declared.rule.Rule.TheVariants.{First, Second}
-use Rattle.refcounts.specs.Making.{words_at}
 use Rattle.refcounts.specs.SharedState.{Slot, SharedState, empty_slot, slot_in, slot_at, with_slot, new_slot}
-use Rattle.refcounts.specs.SharedState.{lowered_slot, occurrences, state_after_releases}
-use Rattle.job_memory.specs.JobBlocks.{JobBlocks, AreOwn, ChangesOnlyOf, grant_of, held_words, own_slots}
+use Rattle.refcounts.specs.SharedState.{lowered_slot, occurrences}
+use Rattle.job_memory.specs.JobBlocks.{JobBlocks, AreOwn, ChangesOnlyOf, grant_of, own_slots}
 use Rattle.job_memory.specs.JobBlocks.{with_block, with_memory}
 use Rattle.job_memory.specs.Laws.{ReleasesChangeOnlyTheirJob, BlocksChangeOnlyTheirJob, ChangesJoin}
-use Rattle.job_slots.specs.Commits.{blocks_beside, with_releases}
+use Rattle.job_slots.specs.Commits.{with_releases}
 use Rattle.job_slots.specs.Holdings.{Cell, ids_of, entries_of, AreAlike, HoldSomeStack}
-use Rattle.job_slots.specs.InPlace.{IsComputed, IsResult, KeepsReferences, with_third, words_by}
+use Rattle.job_slots.specs.InPlace.{KeepsReferences, with_third}
 use Rattle.job_slots.specs.Slots.{SlotState, IsActive, MayEnd, Shows, ShowsAs, grant_by}
 use Rattle.job_slots.specs.declared.status.Status.{Status}
 use Rattle.job_slots.specs.declared.status.Status.TheVariants as status
 use Rattle.job_steps.specs.States.{Task, Vector}
 use Rattle.job_steps.specs.Tracks.{TrackState}
 use Rattle.vcode_base.specs.declared.outcome.Outcome.{Outcome}
-use Rattle.job_slots.proofs.Exchanges.{ReleaseLaws, lower, named_at}
+use Rattle.job_slots.proofs.Exchanges.{named_at}
 use Rattle.job_slots.proofs.Holding.{named_here, named_sum}
-use Rattle.job_slots.proofs.Seen.{adds_block}
 use Rattle.job_slots.proofs.SeenSlots.{own_slot, own_count, placed_here, placed_there}
 
 -- ---- a default among the operands
@@ -82,36 +77,6 @@ pub others_differ : (default : ℕ) (others : List ℕ) → length others ≡ 4 
 others_differ default others long few k x below same =
     let named = named_at others k default below (sym (get_or_default others k default x below ∙ same)) in
     omega (arith, named, counted_once default others long, few)
-
--- ---- the result is there
-
-counted_over : ReleaseLaws → (rule : Rule) (job : ℕ) (taken : List ℕ) (id : ℕ) (words : List ℤ) (old : JobBlocks) →
-    id < length old.memory.slots → slot_at (state_after_releases old.memory taken) id ≡ empty_slot →
-    AreOwn job old taken →
-    words_by rule (held_words job old + length words)
-    (held_words job (with_block (with_releases taken old) job id words))
-    ≡ held_words job (blocks_beside rule taken old) + length words
-counted_over laws First job taken id words old within empty own = refl
-counted_over laws Second job taken id words old within empty own =
-    let less = lower laws job old taken own in
-    let adds = adds_block job (state_after_releases old.memory taken) id (new_slot job words)
-    (omega (arith, within, less.numbers)) empty refl refl in
-    omega (arith, adds.held)
-
-pub computed_over : ReleaseLaws → (rule : Rule) (job : ℕ) (op : Op) (taken : List ℕ) (id : ℕ) (words : List ℤ)
-    (old new : JobBlocks) → IsResult op (map (words_at old.memory) taken) words → id < length old.memory.slots →
-    slot_at (state_after_releases old.memory taken) id ≡ empty_slot → AreOwn job old taken →
-    new ≡ with_block (with_releases taken old) job id words → IsComputed rule job op taken id old new
-computed_over laws rule job op taken id words old new result within empty own is = record {
-  form = Second;
-  words = words;
-  result = result;
-  exchanged = record { within = within; free = empty; exchanged = is };
-  counted =
-      subst (λ (b : JobBlocks). words_by rule (held_words job old + length words) (held_words job b)
-      ≡ held_words job (blocks_beside rule taken old) + length words) (sym is)
-      (counted_over laws rule job taken id words old within empty own);
-}
 
 -- ---- other words, and no result
 

@@ -6,7 +6,6 @@ use Rattle.vcode_base.specs.declared.outcome.Outcome.{Outcome}
 use Rattle.refcounts.specs.SharedState as shared
 use Rattle.job_memory.specs.JobBlocks.{JobBlocks, grant_of, own_slots, with_grant}
 use Rattle.job_steps.specs.Runs.{state_after}
-use Rattle.job_steps.specs.Standings.{Live}
 use Rattle.job_steps.specs.States.{Task, Vector, first_state, ruled}
 use Rattle.job_steps.specs.Tracks.{TrackState}
 use Rattle.job_slots.specs.declared.status.Status.{Status}

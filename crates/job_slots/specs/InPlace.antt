@@ -1,42 +1,43 @@
--- When an instruction's result can be computed where it is placed.
+-- When an instruction's results can be computed where they are placed.
 use Rattle.std.specs.Prelude.{◌≡◌, ℕ, ℤ, ◌+◌, ◌≤◌, Bool, true, false, List, [], ◌∷◌, length, map, slice_index_or}
-use Rattle.std.specs.Prelude.{Some, None}
+use Rattle.std.specs.Prelude.{zero, suc, Some, None}
 use Rattle.vcode_base.specs.declared.op.Op.{Op}
 use Rattle.vcode_base.specs.declared.op.Op.TheVariants.{Const}
 use Rattle.vcode_base.specs.declared.rule.Rule.{Rule}
 use Rattle.vcode_base.specs.declared.rule.Rule.TheVariants.{First, Second}
 use Rattle.vcode_base.specs.Kinds.{HaveKinds, source_kinds, result_kinds}
-use Rattle.vcode_base.specs.Meaning.{shape, need, value_fault, result_of}
+use Rattle.vcode_base.specs.Meaning.{shape, need}
 use Rattle.refcounts.specs.Making.{words_at}
 use Rattle.refcounts.specs.SharedState.{slot_in}
 use Rattle.job_memory.specs.JobBlocks.{JobBlocks, AreOwn, ChangesOnlyOf, held_words, own_slots}
 use Rattle.job_steps.specs.Motions.{operand_count}
 use Rattle.job_steps.specs.States.{Task}
 use Rattle.job_steps.specs.Steps.{flag_of}
-use Rattle.job_steps.specs.Tickets.{question_by}
+use Rattle.job_steps.specs.Tickets.{AreResults, question_by}
 use Rattle.job_steps.specs.Tracks.{TrackState}
 use Rattle.job_steps.specs.declared.event.Event.TheVariants as event
 use Rattle.job_steps.specs.Events.{next_standing}
 use Rattle.job_steps.specs.Standings.{Live, Ended}
 use Rattle.job_slots.specs.declared.in_place.Placement.{Placement}
 use Rattle.job_slots.specs.Answers.{line_at, question_at}
-use Rattle.job_slots.specs.Commits.{IsExchanged, blocks_beside, taken_ids}
+use Rattle.job_slots.specs.Commits.{blocks_beside, taken_ids}
+use Rattle.job_slots.specs.Executions.{HasSettled}
 use Rattle.job_slots.specs.Slots.{SlotState, standing_of}
 
 abbrev pub is_constant : Op → Bool
 is_constant (Const k) = true
 is_constant op = false
 
--- the instruction makes one result of len words of these operands, unless their values have a fault
-pub record CanCompute (op : Op) (sources : List (List ℤ)) (len : ℕ) : Type 0 where
+-- the instruction makes results of so many words of these operands, unless their values have a fault
+pub record CanCompute (op : Op) (sources : List (List ℤ)) (needed : ℕ × ℕ) : Type 0 where
   pub kinds : HaveKinds (source_kinds op) sources
   pub shaped : shape op sources ≡ None
-  pub needs : need op sources ≡ (len, 0)
+  pub needs : need op sources ≡ needed
 
--- the operands have no fault, and this is the result
-pub record IsResult (op : Op) (sources : List (List ℤ)) (words : List ℤ) : Type 0 where
-  pub no_fault : value_fault op sources ≡ None
-  pub result_is : words ≡ result_of op sources
+-- the results of an instruction, of which the second has so many words: if it has none, there is no second
+abbrev pub result_count : ℕ → ℕ
+result_count zero = 1
+result_count (suc n) = 2
 
 -- the words of the operands, from the bottom of the stack up
 abbrev pub operands_in : JobBlocks → Op → List ℕ → List (List ℤ)
@@ -53,32 +54,33 @@ with_third none others default =
     slice_index_or others 0 none ∷ slice_index_or others 1 none ∷ default ∷ slice_index_or others 2 none
     ∷ slice_index_or others 3 none ∷ []
 
--- A block has the result, in the place of the operands, whichever form the exchange has. Its words and those that are
--- held count by the rule.
-pub record IsComputed (rule : Rule) (job : ℕ) (op : Op) (taken : List ℕ) (id : ℕ) (old new : JobBlocks) : Type 0 where
-  pub form : Rule
-  pub words : List ℤ
-  pub result : IsResult op (map (words_at old.memory) taken) words
-  pub exchanged : IsExchanged form job taken id words old new
-  pub counted : words_by rule (held_words job old + length words) (held_words job new)
-      ≡ held_words job (blocks_beside rule taken old) + length words
+-- Blocks of these numbers have the results, in the place of the operands, which may as well have gone before. Their
+-- words and those that are held count by the rule.
+pub record AreComputed (rule : Rule) (job : ℕ) (op : Op) (taken ids : List ℕ) (old new : JobBlocks) : Type 0 where
+  pub first : List ℤ
+  pub second : List ℤ
+  pub results : AreResults (question_by op (map (words_at old.memory) taken)) first second
+  pub settled : (cells : List ℕ) → taken_ids op cells ≡ taken → HasSettled Second job op first second
+      cells ids old new
+  pub counted : words_by rule (held_words job old + length first + length second) (held_words job new)
+      ≡ held_words job (blocks_beside rule taken old) + length first + length second
 
 -- as many references name each of the job's blocks as before, and no other job's blocks changed
 pub record KeepsReferences (job : ℕ) (old new : JobBlocks) : Type 0 where
   pub counts : (id : ℕ) → (slot_in (own_slots job new) id).count ≡ (slot_in (own_slots job old) id).count
   pub others : ChangesOnlyOf job old new
 
--- the instruction is the next of the job, its operands are on the stack, and the job has room for its one result of so
+-- the instruction is the next of the job, its operands are on the stack, and the job has room for its results of so
 -- many words beside them
 pub record IsPlaceable (task : Task) (job : ℕ) (blocks : JobBlocks) (t : TrackState ℕ) (p : Placement) : Type 0 where
   pub question : question_at task t.executed ≡ Some (question_by p.op (operands_in blocks p.op t.cells))
   pub line_is : line_at task t.executed ≡ Some p.line
   pub flag_is : p.flag ≡ flag_of (question_by p.op (operands_in blocks p.op t.cells))
-  pub can : CanCompute p.op (operands_in blocks p.op t.cells) p.len
-  pub one : length (result_kinds p.op) ≡ 1
+  pub can : CanCompute p.op (operands_in blocks p.op t.cells) (p.first, p.second)
+  pub count : length (result_kinds p.op) ≡ result_count p.second
   pub deep : operand_count p.op ≤ length t.cells
   pub own : AreOwn job blocks (taken_ids p.op t.cells)
-  pub room : held_words job blocks + p.len ≤ task.limits.words
+  pub room : held_words job blocks + p.first + p.second ≤ task.limits.words
 
 -- the instruction is executed, and the job goes on or has returned
 pub record Carries (job : ℕ) (task : Task) (old new : SlotState) (on : Bool) : Type 0 where

@@ -41,7 +41,7 @@ pub(crate) enum NewBlocks {
 impl NewBlocks {
     /// Their numbers.
     #[inline(always)]
-    fn as_slice(&self) -> &[BlockId]
+    pub(crate) fn as_slice(&self) -> &[BlockId]
         ensures { result.now ≡ ids_in self.now }
     {
         match self {
@@ -288,7 +288,11 @@ fn dying<A: Allocator>(blocks: &JobMemory<A>, ids: &[BlockId], len: usize) -> Op
 
 /// A new block of the job, whose grant has room for it.
 #[inline(always)]
-fn place<A: Allocator>(number: usize, blocks: &mut JobMemory<A>, words: &[i64]) -> BlockId
+pub(crate) fn place<A: Allocator>(
+    number: usize,
+    blocks: &mut JobMemory<A>,
+    words: &[i64],
+) -> BlockId
     requires has_grant { HasGrant blocks.old number }
     requires numbers { block_count blocks.old.memory < length blocks.old.memory.slots }
     requires room { held_words number blocks.old + length words.now ≤ words_of (grant_of blocks.old number) }

@@ -36,7 +36,7 @@ use crate::answer::{Begun, Finished, Stepped};
 use crate::class::{self, Class};
 use crate::collect::results;
 use crate::commit::{Made, execute, made_in_flight};
-use crate::in_place::{Placement, execute_in_place, placement_of};
+use crate::in_place::{Due, Placement, execute_in_place, placement_of};
 use crate::next::{is_asked, line_of_next, next_at, read_next, settled_line};
 use crate::status::Status;
 use crate::ticket::{
@@ -553,7 +553,8 @@ impl<A: Allocator> Slot<A> {
             Ok(ready) => ready,
         };
         if let Some(placement) = placement_of(turn, job, &self.track, blocks, ready) {
-            return self.step_in_place(turn, job, blocks, placement);
+            let beside = desk.lend(placement.second);
+            return self.step_in_place(turn, job, blocks, placement, beside);
         }
         let Ready {
             op,
@@ -699,7 +700,8 @@ impl<A: Allocator> Slot<A> {
         }
     }
 
-    /// Carries out the next instruction of a job that is live, whose result is computed where it is placed.
+    /// Carries out the next instruction of a job that is live, whose results are computed where they are placed. What
+    /// is lent beside the blocks is for the second one.
     #[inline(never)]
     fn step_in_place(
         &mut self,
@@ -707,12 +709,14 @@ impl<A: Allocator> Slot<A> {
         job: &Job<A>,
         blocks: &mut JobMemory<A>,
         placement: Placement,
+        beside: &mut [i64],
     ) -> Stepped
         requires shows { Shows turn.number blocks.old (ruled turn.rule job.now) self.old }
         requires live { self.old.status ≡ status.Live }
         requires settled { IsSettled (functions_of job.now.verified) self.old.trace.frames }
         requires goes_on { early_end_at (ruled turn.rule job.now) self.old.trace.executed ≡ None }
         requires placeable { IsPlaceable (ruled turn.rule job.now) turn.number blocks.old self.old.trace placement }
+        requires lent { length beside.old ≡ placement.second }
         requires numbers { block_count blocks.old.memory + 2 ≤ length blocks.old.memory.slots }
         ensures answer { (words : ℕ) → job.now.limits.words ≤ words
             → Steps turn.number words (ruled turn.rule job.now) (standing_of self.old) result }
@@ -726,7 +730,7 @@ impl<A: Allocator> Slot<A> {
         others_are_ready();
         changes_join();
         self.status = Status::InFlight;
-        match self.carry_out_in_place(turn, job, blocks, placement) {
+        match self.carry_out_in_place(turn, job, blocks, placement, beside) {
             Ok(goes_on) => {
                 if goes_on {
                     Stepped::Done
@@ -742,8 +746,8 @@ impl<A: Allocator> Slot<A> {
         }
     }
 
-    /// Executes the instruction of the step in flight, whose result is computed where it is placed: true if the job
-    /// goes on after it, and false if it has returned.
+    /// Executes the instruction of the step in flight, whose results are computed where they are placed: true if the
+    /// job goes on after it, and false if it has returned.
     ///
     /// # Errors
     ///
@@ -754,10 +758,12 @@ impl<A: Allocator> Slot<A> {
         job: &Job<A>,
         blocks: &mut JobMemory<A>,
         placement: Placement,
+        beside: &mut [i64],
     ) -> Result<bool, DataFault>
         requires shows { Shows turn.number blocks.old (ruled turn.rule job.now) self.old }
         requires flying { self.old.status ≡ status.InFlight }
         requires placeable { IsPlaceable (ruled turn.rule job.now) turn.number blocks.old self.old.trace placement }
+        requires lent { length beside.old ≡ placement.second }
         requires numbers { block_count blocks.old.memory + 2 ≤ length blocks.old.memory.slots }
         ensures carried { IfOk result (Carries turn.number (ruled turn.rule job.now) self.old self.new) }
         ensures shows { OnOk result (Shows turn.number blocks.new (ruled turn.rule job.now) self.new) }
@@ -770,7 +776,8 @@ impl<A: Allocator> Slot<A> {
         reached();
         end_is_own();
         let op = placement.op;
-        match execute_in_place(turn, job, &mut self.track, blocks, placement) {
+        let due = Due { turn, placement };
+        match execute_in_place(due, job, &mut self.track, blocks, beside) {
             Ok(()) => Ok(self.go_on(op)),
             Err(fault) => Err(fault),
         }

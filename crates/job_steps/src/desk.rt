@@ -1,15 +1,15 @@
 //! What a step takes with it between its begin and its finish.
 
 ghost use Rattle.std.specs.Borrow.{sem};
-ghost use Rattle.std.specs.Prelude.{◌≡◌, ◌≤◌, IfOk, MatchResult, Some};
+ghost use Rattle.std.specs.Prelude.{◌≡◌, ◌≤◌, length, IfOk, MatchResult, Some};
 ghost use Rattle.vcode_base.specs.declared.limits.TheConstants.{MOST_WORDS};
 ghost use Rattle.vcode_base.specs.Meaning.{need, value_fault};
 ghost use Rattle.vcode_base.specs.Operands.{contents};
 ghost use Rattle.job_steps.specs.Buffers.{HaveAtMost};
-ghost use Rattle.job_steps.specs.Rooms.{KeepsWords};
+ghost use Rattle.job_steps.specs.Rooms.{KeepsWords, LendsWords};
 ghost use Rattle.job_steps.specs.Tickets.{AreResults, CanAnswer, question_by, asked_by};
 
-use crate::filled::{fill_front, results_in};
+use crate::filled::{fill_front, lengthen, results_in};
 use crate::operands::{MOST_OPERANDS, OperandBuffer};
 use crate::step::{Buffers, Step};
 use crate::ticket::Ticket;
@@ -69,8 +69,8 @@ impl<A: Allocator> Desk<A> {
     /// Writes the results of an instruction into the room for them, and lends them: the words of the first and of the
     /// second, empty if there is none. Takes no memory.
     ///
-    /// `op` and `operands` are as for [`lengths`](crate::lengths), and `needed` is what it has answered. The desk has at
-    /// least as many words as the results together.
+    /// `op` and `operands` are as for [`lengths`](crate::lengths), and `needed` is what it has answered. The desk has
+    /// at least as many words as the results together.
     ///
     /// # Errors
     ///
@@ -91,6 +91,19 @@ impl<A: Allocator> Desk<A> {
     {
         let answer = fill_front(op, operands, needed, &mut self.buffers.results);
         results_in(answer, &self.buffers.results)
+    }
+
+    /// Lends `len` words of the room for results. What they are is not specified. Takes no memory.
+    #[inline(always)]
+    pub fn lend(&mut self, len: usize) -> &mut [i64]
+        requires { len ≤ self.old }
+        ensures* keeps_words { sem 𝓛 (LendsWords A.row A.Allocator self.entry result) }
+        ensures len { length result.now ≡ len }
+    {
+        let buffers = &mut *self.buffers;
+        let results = &mut buffers.results;
+        lengthen(results, len);
+        results.slice_mut(..len)
     }
 
     /// The ticket of a step, with copies of its operands.

@@ -222,7 +222,7 @@ pub(crate) fn fill_front<A: Allocator>(
 
 /// Makes a list at least so long within what is reserved for it. Only words that it did not have before are written.
 #[inline(always)]
-fn lengthen<A: Allocator>(list: &mut Vec<i64, A>, len: usize)
+pub(crate) fn lengthen<A: Allocator>(list: &mut Vec<i64, A>, len: usize)
     requires { len ≤ vec_capacity list.old }
     ensures len { len ≤ vec_len list.new }
     ensures capacity { vec_capacity list.old ≤ vec_capacity list.new }

@@ -8,8 +8,8 @@
 //! [`laws`] proves it.
 //!
 //! Every instruction has its meaning in two calls: [`lengths`] and [`fill`]. A step is computed away from the machine
-//! that it belongs to: a [`Desk`] takes copies of the operands and so becomes a [`Ticket`], which [`compute`] turns into
-//! a [`Filled`], and both give the desk back. `Tickets` says what they hold.
+//! that it belongs to: a [`Desk`] takes copies of the operands and so becomes a [`Ticket`], which [`compute`] turns
+//! into a [`Filled`], and both give the desk back. `Tickets` says what they hold.
 //!
 //! A [`Job`] is what is run. Its [`Track`] is its place in its run: cells that name the vectors of the stack's
 //! entries, and frames over the lines of the code instead of calls with what remains of them. `Frames`

@@ -1,5 +1,5 @@
 //! Writing other words over those of a block.
-ghost use Rattle.std.specs.Prelude.{◌≡◌, ◌≢◌, ◌≤◌, length, map, All, MatchResult};
+ghost use Rattle.std.specs.Prelude.{◌≡◌, ◌≢◌, ◌≤◌, [], length, map, All, MatchResult};
 ghost use Rattle.block_memory.specs.declared.writer.TheConstants.{MOST_LENT};
 ghost use Rattle.refcounts.specs.SharedState.{AreLive, slot_at, with_slot, new_slot};
 ghost use Rattle.refcounts.specs.Making.{IsRewrittenWith, words_at};
@@ -21,8 +21,8 @@ impl<M: RewritableMemory, A: Allocator> SharedMemory<M, A> {
 }
 
 impl<M: LendingMemory, A: Allocator> SharedMemory<M, A> {
-    /// Writes other words over those of a block, which one reference names. A rewriter writes them, and is lent the
-    /// words of other blocks for that.
+    /// Writes other words over those of a block, which one reference names. A rewriter writes them, and none beside
+    /// them. It is lent the words of other blocks for that.
     ///
     /// # Errors
     ///
@@ -38,10 +38,10 @@ impl<M: LendingMemory, A: Allocator> SharedMemory<M, A> {
         requires few { length lent.now ≤ MOST_LENT }
         requires live { AreLive self.old lent.now }
         requires others { All (λ other. other ≢ id) lent.now }
-        requires can { R.can_rewrite rewriter.now (map (words_at self.old) lent.now) (words_at self.old id) }
+        requires can { R.can_rewrite rewriter.now (map (words_at self.old) lent.now) 0 (words_at self.old id) }
         ensures { let lists = map (words_at self.old) lent.now in
             IsRewrittenWith self.old self.new id (λ words. MatchResult result
-            (λ _. R.rewrites rewriter.now lists (words_at self.old id) words)
+            (λ _. R.rewrites rewriter.now lists [] (words_at self.old id) words)
             (λ fault. R.faults_over rewriter.now lists (words_at self.old id) fault)) }
     {
         self.memory.rewrite_with(id, lent, rewriter)

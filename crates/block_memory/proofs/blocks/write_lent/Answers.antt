@@ -37,12 +37,14 @@ write_block-requires-clause-apart g c =
 
 pub write_block-requires-clause-can : goal.write_block-requires-clause-can
 write_block-requires-clause-can g c =
-    subst (λ ws. g.R.Rewriter.can_rewrite c.args.writer.now ws (take c.args.len (drop c.args.place c.args.words.now)))
+    subst (λ ws. g.R.Rewriter.can_rewrite c.args.writer.now ws (length c.args.beside.now)
+    (take c.args.len (drop c.args.place c.args.words.now)))
     (sym (lists g (goal.at.write_block-requires-clause-can g c).After-lent_span-5)) c.requires.can
 
 pub returns-in-Ok-clause-by_writer : goal.returns-in-Ok-clause-by_writer
 returns-in-Ok-clause-by_writer g c =
-    subst (λ ws. g.R.Rewriter.rewrites c.args.writer.now ws (take c.args.len (drop c.args.place c.args.words.now))
+    subst (λ ws. g.R.Rewriter.rewrites c.args.writer.now ws c.write_block.new.beside
+    (take c.args.len (drop c.args.place c.args.words.now))
     (take c.args.len (drop c.args.place c.write_block.new.region)))
     (lists g (goal.at.returns-in-Ok-clause-by_writer g c).After-lent_span-5) c.in-Ok.ensures.written
 

@@ -26,12 +26,12 @@ are g c =
 
 pub rewrite-requires : goal.rewrite-requires
 rewrite-requires g c =
-    subst (λ ws. g.R.Rewriter.can_rewrite c.args.writer.now ws c.args.block.now)
+    subst (λ ws. g.R.Rewriter.can_rewrite c.args.writer.now ws (length c.args.beside.now) c.args.block.now)
     (sym (are g (goal.at.rewrite-requires g c).After-words_at-5)) c.requires.can
 
 pub returns : goal.returns
 returns g c =
     subst (λ ws. MatchResult c.rewrite.result
-    (λ _. g.R.Rewriter.rewrites c.args.writer.now ws c.args.block.now c.rewrite.new.block)
+    (λ _. g.R.Rewriter.rewrites c.args.writer.now ws c.rewrite.new.beside c.args.block.now c.rewrite.new.block)
     (λ fault. g.R.Rewriter.faults_over c.args.writer.now ws c.args.block.now fault))
     (are g (goal.at.returns g c).After-words_at-5) c.rewrite.ensures

@@ -34,7 +34,8 @@ make_with-requires-clause-live g c =
 
 pub make_with-requires-clause-can : goal.make_with-requires-clause-can
 make_with-requires-clause-can g c =
-    subst (λ (m : SharedState). g.W.Writer.can_write c.args.writer.now (map (words_at m) c.args.lent.now) c.args.len)
+    subst (λ (m : SharedState). g.W.Writer.can_write c.args.writer.now (map (words_at m) c.args.lent.now)
+    (length c.args.beside.now) c.args.len)
     (sym (memory_is g (goal.at.make_with-requires-clause-can g c).After-granted-reserved)) c.requires.can
 
 pub unreachable-requires : goal.unreachable-requires
@@ -63,7 +64,8 @@ returns-in-Ok-charge-clause-placed g c =
       empty = subst (λ (m : SharedState). slot_at m c.in-Ok.id ≡ empty_slot) is made.empty;
       long = made.long;
       so =
-          subst (λ (m : SharedState). g.W.Writer.writes c.args.writer.now (map (words_at m) c.args.lent.now) made.words)
+          subst (λ (m : SharedState). g.W.Writer.writes c.args.writer.now (map (words_at m) c.args.lent.now)
+          c.make_with.new.beside made.words)
           is made.so;
       placed =
           rw (made.made, c.in-Ok-charge.ensures.charged)

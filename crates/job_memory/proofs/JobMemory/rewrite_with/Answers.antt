@@ -1,4 +1,4 @@
-use Rattle.std.proofs.Common.{◌≡◌, length, map, sym, ap, ◌∙◌, subst, arith}
+use Rattle.std.proofs.Common.{◌≡◌, [], length, map, sym, ap, ◌∙◌, subst, arith}
 use Rattle.std.specs.Prelude.{MatchResult}
 use Rattle.refcounts.specs.Making.{words_at}
 use Rattle.refcounts.specs.SharedState.{Slot, SharedState, AreLive, IsLive, slot_at, new_slot}
@@ -24,7 +24,7 @@ rewrite_with-requires-clause-live g c =
 pub rewrite_with-requires-clause-can : goal.rewrite_with-requires-clause-can
 rewrite_with-requires-clause-can g c =
     subst (λ (m : SharedState). g.R.Rewriter.can_rewrite c.args.rewriter.now (map (words_at m) c.args.lent.now)
-    (words_at m c.args.id)) (sym (memory_is g (goal.at.rewrite_with-requires-clause-can g c).After-self))
+    0 (words_at m c.args.id)) (sym (memory_is g (goal.at.rewrite_with-requires-clause-can g c).After-self))
     c.requires.can
 
 pub invariant_of-self : goal.invariant_of-self
@@ -47,7 +47,7 @@ returns g c =
       same_length = e.same_length ∙ ap (λ (m : SharedState). length (words_at m c.args.id)) is;
       so =
           subst (λ (m : SharedState). MatchResult c.rewrite_with.result
-          (λ _. g.R.Rewriter.rewrites c.args.rewriter.now (map (words_at m) c.args.lent.now) (words_at m c.args.id)
+          (λ _. g.R.Rewriter.rewrites c.args.rewriter.now (map (words_at m) c.args.lent.now) [] (words_at m c.args.id)
           e.words)
           (λ fault. g.R.Rewriter.faults_over c.args.rewriter.now (map (words_at m) c.args.lent.now)
           (words_at m c.args.id) fault)) is e.so;

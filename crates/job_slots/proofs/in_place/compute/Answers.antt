@@ -7,8 +7,8 @@ use Rattle.job_slots.proofs.in_place.compute.Goals as goal
 
 pub compute_over-requires-clause-can : goal.compute_over-requires-clause-can
 compute_over-requires-clause-can g c =
-    let is : c.args.op ≡ SegmentedOp (DefaultPermute c.in-Segmented-DefaultPermute.scalar) =
+    let is : c.args.placement.op ≡ SegmentedOp (DefaultPermute c.in-Segmented-DefaultPermute.scalar) =
     search rules in
-    with_long_default (words_at c.args.blocks.now.memory) c.args.operands.now c.default-item.result c.args.op
-    c.in-Segmented-DefaultPermute.scalar c.args.len is (omega (arith, c.in-len5.len_at_least)) c.default-item.is
+    with_long_default (words_at c.args.blocks.now.memory) c.args.operands.now c.default-item.result c.args.placement.op
+    c.in-Segmented-DefaultPermute.scalar _ is (omega (arith, c.in-len5.len_at_least)) c.default-item.is
     c.requires.can

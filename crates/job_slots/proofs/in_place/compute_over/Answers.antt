@@ -1,15 +1,20 @@
-use Rattle.std.proofs.Common.{◌≡◌, ◌≤◌, ◌∙◌, ℕ, ℤ, List, [], length, map, ap, sym, subst, arith}
+use Rattle.std.proofs.Common.{◌≡◌, ◌≤◌, ◌∙◌, ℕ, ℤ, List, [], length, map, refl, ap, sym, subst, arith}
 use Rattle.std.proofs.lemmas.List.{length-map}
+use Rattle.vcode_base.specs.declared.kind.Scalar.{Scalar}
+use Rattle.vcode_base.specs.declared.kind.Scalar.TheVariants.{Int, Bool}
 use Rattle.vcode_base.specs.declared.op.Op.{Op}
 use Rattle.vcode_base.specs.declared.op.Op.TheVariants.{Segmented as SegmentedOp}
 use Rattle.vcode_base.specs.declared.op.Segmented.TheVariants.{DefaultPermute}
+use Rattle.vcode_base.specs.Kinds.{result_kinds}
 use Rattle.vcode_base.specs.Meaning.{value_fault}
 use Rattle.refcounts.specs.Making.{words_at}
 use Rattle.refcounts.specs.SharedState.{IsLive, AreLive, occurrences}
-use Rattle.job_slots.specs.InPlace.{CanCompute, IsResult, with_third}
-use Rattle.job_slots.proofs.Exchanges.{own_are_live}
+use Rattle.job_steps.specs.Tickets.{AreResults, question_by}
+use Rattle.job_slots.specs.InPlace.{CanCompute, with_third}
+use Rattle.job_slots.proofs.Exchanges.{own_are_live, placed_after}
+use Rattle.job_slots.proofs.InPlace.{one_computed}
 use Rattle.job_slots.proofs.LettingGo.{own_named}
-use Rattle.job_slots.proofs.Overlaid.{computed_over, default_listed, keeps_references, others_differ, others_too}
+use Rattle.job_slots.proofs.Overlaid.{default_listed, keeps_references, others_differ, others_too}
 use Rattle.job_slots.proofs.Overlaid.{words_with_third}
 use Rattle.job_slots.proofs.in_place.compute_over.Given.{Over}
 use Rattle.job_slots.proofs.in_place.compute_over.Goals as goal
@@ -56,21 +61,28 @@ exchange_with-requires-clause-can g c =
     let words = words_at c.args.blocks.now.memory in (
       length-map c.args.others words ∙ c.requires.four,
       subst (λ (xs : List (List ℤ)). CanCompute (SegmentedOp (DefaultPermute c.args.scalar)) xs
-          (length (words c.args.default))) (lists g at) c.requires.can,
+          (length (words c.args.default), 0)) (lists g at) c.requires.can,
     )
+
+one : (k : Scalar) → length (result_kinds (SegmentedOp (DefaultPermute k))) ≡ 1
+one Int = refl
+one Bool = refl
 
 pub returns-in-Ok-clause-computed : goal.returns-in-Ok-clause-computed
 returns-in-Ok-clause-computed g c =
     let at = (goal.at.returns-in-Ok-clause-computed g c).After-changes_join in
     let e = c.in-Ok.ensures.exchanged in
     let op : Op = SegmentedOp (DefaultPermute c.args.scalar) in
-    computed_over (record {
+    let replaced = placed_after (record {
       only_free = c.releases_only_free.ensures;
       only_their_job = c.releases_change_only_their_job.ensures;
-    }) c.args.turn.rule c.args.turn.number op c.args.operands.now c.args.default e.words c.args.blocks.now
-    c.exchange_with.new.self
-    (subst (λ (xs : List (List ℤ)). IsResult op xs e.words) (sym (lists g at)) e.so)
-    c.exchange_with.ensures.fresh.0 c.exchange_with.ensures.fresh.1 c.requires.own e.rewritten
+    }) c.args.turn.rule c.args.turn.number c.args.operands.now c.args.default e.words c.args.blocks.now
+    c.exchange_with.new.self c.exchange_with.ensures.fresh.0 c.exchange_with.ensures.fresh.1 c.requires.own
+    e.rewritten in
+    one_computed c.args.turn.rule c.args.turn.number op c.args.operands.now c.args.default e.words []
+    c.args.blocks.now c.exchange_with.new.self replaced
+    (subst (λ (xs : List (List ℤ)). AreResults (question_by op xs) e.words []) (sym (lists g at)) e.so)
+    (one c.args.scalar) refl
 
 pub returns-in-Err-clause-fault : goal.returns-in-Err-clause-fault
 returns-in-Err-clause-fault g c =

@@ -1,4 +1,4 @@
-use Rattle.std.proofs.Common.{◌≡◌, map, Some, arith, sym, subst, ap, ◌∙◌}
+use Rattle.std.proofs.Common.{◌≡◌, length, map, Some, arith, sym, subst, ap, ◌∙◌}
 use Rattle.block_memory.specs.Content.{words_at as words_in}
 use Rattle.refcounts.specs.SharedState.{SharedState}
 use Rattle.refcounts.specs.Making.{words_at}
@@ -34,7 +34,8 @@ place_with-requires-clause-can g c =
     let same : map (words_in content) c.args.lent.now ≡ map (words_at c.args.self.now) c.args.lent.now =
     (λ i. map (λ n. sym (words_is content c.self.inside.counts.items n c.self.invariant.ids) i) c.args.lent.now)
     ∙ ap (λ (s : SharedState). map (words_at s) c.args.lent.now) c.self.view_is in
-    subst (λ ws. g.W.Writer.can_write c.args.writer.now ws c.args.len) (sym same) c.requires.can
+    subst (λ ws. g.W.Writer.can_write c.args.writer.now ws (length c.args.beside.now) c.args.len) (sym same)
+    c.requires.can
 
 pub returns-in-Err-clause-fault : goal.returns-in-Err-clause-fault
 returns-in-Err-clause-fault g c =
@@ -50,7 +51,7 @@ returns-in-Ok-clause-made g c =
       in_range = omega (arith, p.in_range, t.ids);
       empty = slot_at-empty _ _ _ _ c.in-Ok.id c.self.invariant c.self.view_is p.empty;
       long = p.long;
-      so = subst (λ ws. g.W.Writer.writes c.args.writer.now ws p.words)
+      so = subst (λ ws. g.W.Writer.writes c.args.writer.now ws c.place_with.new.beside p.words)
           (lists g (goal.at.returns-in-Ok-clause-made g c).After-place_with) p.so;
       made = rw (c.place_with.ensures.same_room, p.placed, c.number.ensures)
           (state_of-set _ _ _ _ c.in-Ok.id (Some (record { owner = c.args.owner; words = p.words })) 1 c.self.view_is);

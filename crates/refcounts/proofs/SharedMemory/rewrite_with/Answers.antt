@@ -1,4 +1,4 @@
-use Rattle.std.proofs.Common.{◌≡◌, length, map, sym, ◌∙◌, ap, subst, arith}
+use Rattle.std.proofs.Common.{◌≡◌, [], length, map, sym, ◌∙◌, ap, subst, arith}
 use Rattle.std.specs.Prelude.{MatchResult}
 use Rattle.block_memory.specs.Content.{words_at as words_in}
 use Rattle.refcounts.specs.SharedState.{SharedState, IsLive, with_slot, new_slot}
@@ -35,8 +35,8 @@ pub rewrite_with-requires-clause-can : goal.rewrite_with-requires-clause-can
 rewrite_with-requires-clause-can g c =
     let at = (goal.at.rewrite_with-requires-clause-can g c).After-self in
     let content = g.M.VectorMemory.content c.self.inside.memory in
-    subst (λ ws. g.R.Rewriter.can_rewrite c.args.rewriter.now ws (words_in content c.args.id)) (sym (lists g at))
-    (subst (λ old. g.R.Rewriter.can_rewrite c.args.rewriter.now (map (words_at c.args.self.now) c.args.lent.now) old)
+    subst (λ ws. g.R.Rewriter.can_rewrite c.args.rewriter.now ws 0 (words_in content c.args.id)) (sym (lists g at))
+    (subst (λ old. g.R.Rewriter.can_rewrite c.args.rewriter.now (map (words_at c.args.self.now) c.args.lent.now) 0 old)
     (sym (block g at).words) c.requires.can)
 
 pub invariant_of-self : goal.invariant_of-self
@@ -54,11 +54,11 @@ returns g c =
       same_length = e.same_length ∙ ap length (block g at).words;
       so =
           subst (λ ws. MatchResult c.rewrite_with.result
-          (λ _. g.R.Rewriter.rewrites c.args.rewriter.now ws (words_at c.args.self.now c.args.id) e.words)
+          (λ _. g.R.Rewriter.rewrites c.args.rewriter.now ws [] (words_at c.args.self.now c.args.id) e.words)
           (λ fault. g.R.Rewriter.faults_over c.args.rewriter.now ws (words_at c.args.self.now c.args.id) fault))
           (lists g at)
           (subst (λ old. MatchResult c.rewrite_with.result
-          (λ _. g.R.Rewriter.rewrites c.args.rewriter.now (map (words_in content) c.args.lent.now) old e.words)
+          (λ _. g.R.Rewriter.rewrites c.args.rewriter.now (map (words_in content) c.args.lent.now) [] old e.words)
           (λ fault. g.R.Rewriter.faults_over c.args.rewriter.now (map (words_in content) c.args.lent.now) old fault))
           (block g at).words e.so);
       rewritten =

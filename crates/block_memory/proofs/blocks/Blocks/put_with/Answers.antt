@@ -66,8 +66,9 @@ write_lent-written-requires-clause-can g c =
     let size = length-part c.deref_mut.result.now (c.len-front.result + c.args.place) c.args.len
     (omega (arith, ap length c.deref_mut.ensures.value, c.len-front.ensures, reached, lengthened.long)) in
     subst (λ n. g.W.Writer.can_write c.args.writer.now (map (λ id. words_in c.deref_mut.result.now
-    (span_at here.spans id)) c.args.lent.now) n) (sym size)
-    (subst (λ ws. g.W.Writer.can_write c.args.writer.now ws c.args.len) (sym lists) c.requires.can)
+    (span_at here.spans id)) c.args.lent.now) (length c.args.beside.now) n) (sym size)
+    (subst (λ ws. g.W.Writer.can_write c.args.writer.now ws (length c.args.beside.now) c.args.len) (sym lists)
+    c.requires.can)
 
 -- the words that were written are as many as were asked for
 long : (g : Over) (c : goal.After-write_lent-written g) →
@@ -137,7 +138,8 @@ returns-clause-put g c =
     (now g at.After-lengthen).slots
     ∙ ap (λ (l : Layout). map (words_at l.slots) c.args.lent.now) c.self.view_is)) in
     let written =
-    subst (λ ws. MatchResult c.write_lent-written.result (λ _. g.W.Writer.writes c.args.writer.now ws new)
+    subst (λ ws. MatchResult c.write_lent-written.result
+    (λ _. g.W.Writer.writes c.args.writer.now ws c.write_lent-written.new.beside new)
     (λ fault. g.W.Writer.faults c.args.writer.now ws fault)) lists
     (rw c.len-front.ensures at c.write_lent-written.ensures.by_writer) in
     let placed =

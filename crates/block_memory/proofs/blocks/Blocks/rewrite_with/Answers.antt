@@ -1,4 +1,5 @@
-use Rattle.std.proofs.Common.{◌≡◌, ℤ, ◌-◌, List, length, map, take, drop, ap, ◌∙◌, refl, sym, subst, arith}
+use Rattle.std.proofs.Common.{◌≡◌, ℤ, ◌-◌, List, [], length, map, take, drop, ap, ◌∙◌, refl, sym, subst, arith}
+use Rattle.std.proofs.lemmas.List.{nil_from_length}
 use Rattle.std.specs.Prelude.{MatchResult, slice_index_or}
 use Rattle.block_memory.specs.BlocksInside.{slots_from, covered_in}
 use Rattle.block_memory.specs.Layout.{IsClear, Layout, layout_after_rewrite, words_at}
@@ -59,9 +60,10 @@ pub write_lent-requires-clause-can : goal.write_lent-requires-clause-can
 write_lent-requires-clause-can g c =
     let at = (goal.at.write_lent-requires-clause-can g c).After-deref_mut in
     let s = c.value-span.result.now in
-    subst (λ ws. g.R.Rewriter.can_rewrite c.args.rewriter.now ws (take s.len (drop s.place c.deref_mut.result.now)))
+    subst (λ ws. g.R.Rewriter.can_rewrite c.args.rewriter.now ws 0 (take s.len (drop s.place c.deref_mut.result.now)))
     (sym (lists g at))
-    (subst (λ old. g.R.Rewriter.can_rewrite c.args.rewriter.now (map (words_at c.args.self.now.slots) c.args.lent.now) old)
+    (subst (λ old. g.R.Rewriter.can_rewrite c.args.rewriter.now (map (words_at c.args.self.now.slots) c.args.lent.now)
+    0 old)
     (sym (own g at)) c.requires.can)
 
 -- the words that were written are as many as before
@@ -120,6 +122,7 @@ returns g c =
     c.write_lent.ensures.written.same_size in
     let size = length-part here.words.items s.place s.len
     (c.self.invariant.within c.args.number s c.value-span.ensures) in
+    let none = nil_from_length c.write_lent.new.beside c.write_lent.auto.beside in
     record {
       words = new;
       same_length =
@@ -131,13 +134,14 @@ returns g c =
           ∙ ap (λ layout. layout_after_rewrite layout c.args.number new) c.self.view_is;
       so =
           subst (λ ws. MatchResult c.write_lent.result
-          (λ _. g.R.Rewriter.rewrites c.args.rewriter.now ws (words_at c.args.self.now.slots c.args.number) new)
-          (λ fault. g.R.Rewriter.faults_over c.args.rewriter.now ws (words_at c.args.self.now.slots c.args.number) fault))
+          (λ _. g.R.Rewriter.rewrites c.args.rewriter.now ws [] (words_at c.args.self.now.slots c.args.number) new)
+          (λ fault. g.R.Rewriter.faults_over c.args.rewriter.now ws (words_at c.args.self.now.slots c.args.number)
+          fault))
           (lists g before.After-deref_mut)
           (subst (λ old. MatchResult c.write_lent.result
           (λ _. g.R.Rewriter.rewrites c.args.rewriter.now
-          (map (λ id. words_in c.deref_mut.result.now (span_at here.spans id)) c.args.lent.now) old new)
+          (map (λ id. words_in c.deref_mut.result.now (span_at here.spans id)) c.args.lent.now) [] old new)
           (λ fault. g.R.Rewriter.faults_over c.args.rewriter.now
           (map (λ id. words_in c.deref_mut.result.now (span_at here.spans id)) c.args.lent.now) old fault))
-          (own g before.After-deref_mut) c.write_lent.ensures.by_writer);
+          (own g before.After-deref_mut) (rw none at c.write_lent.ensures.by_writer));
     }

@@ -20,12 +20,12 @@ are g c =
 
 pub write-written-requires : goal.write-written-requires
 write-written-requires g c =
-    subst (λ ws. g.W.Writer.can_write c.args.writer.now ws 1)
+    subst (λ ws. g.W.Writer.can_write c.args.writer.now ws (length c.args.beside.now) 1)
     (sym (are g (goal.at.write-written-requires g c).After-lent_words-5)) c.requires.can
 
 pub returns : goal.returns
 returns g c =
     subst (λ ws. MatchResult c.write-written.result
-    (λ _. g.W.Writer.writes c.args.writer.now ws c.write-written.new.block)
+    (λ _. g.W.Writer.writes c.args.writer.now ws c.write-written.new.beside c.write-written.new.block)
     (λ fault. g.W.Writer.faults c.args.writer.now ws fault))
     (are g (goal.at.returns g c).After-lent_words-5) c.write-written.ensures

@@ -1,4 +1,4 @@
-use Rattle.std.proofs.Common.{rules, w64, Fits, ◌≡◌, ℕ, ℤ, ◌+◌, ◌≤◌, List, map, sym, ap, ◌∙◌, subst, arith}
+use Rattle.std.proofs.Common.{rules, w64, Fits, ◌≡◌, ℕ, ℤ, ◌+◌, ◌≤◌, List, length, map, sym, ap, ◌∙◌, subst, arith}
 use Rattle.std.specs.Prelude.{MatchResult}
 use Rattle.block_memory.specs.Content.{words_at, used_words}
 use Rattle.block_memory.specs.Layout.{PlacedBlock, content_of, words_at as layout_words_at}
@@ -46,7 +46,7 @@ put_with-number-requires-clause-bare g c =
 
 pub put_with-number-requires-clause-can : goal.put_with-number-requires-clause-can
 put_with-number-requires-clause-can g c =
-    subst (λ ws. g.W.Writer.can_write c.args.writer.now ws c.args.len)
+    subst (λ ws. g.W.Writer.can_write c.args.writer.now ws (length c.args.beside.now) c.args.len)
     (sym (lists g (goal.at.put_with-number-requires-clause-can g c).After-take_room-place)) c.requires.can
 
 pub overflow_add-self-2 : goal.overflow_add-self-2
@@ -93,11 +93,11 @@ with_words g c is so =
 -- what the writer answered
 told : (g : Over) (c : goal.After-new-id g) → MatchResult c.put_with-number.result.1
     (λ _. g.W.Writer.writes c.args.writer.now (map (words_at c.args.self.now.content) c.args.lent.now)
-    c.put_with-number.ensures.put.0)
+    c.put_with-number.new.beside c.put_with-number.ensures.put.0)
     (λ fault. g.W.Writer.faults c.args.writer.now (map (words_at c.args.self.now.content) c.args.lent.now) fault)
 told g c =
     subst (λ ws. MatchResult c.put_with-number.result.1
-    (λ _. g.W.Writer.writes c.args.writer.now ws c.put_with-number.ensures.put.0)
+    (λ _. g.W.Writer.writes c.args.writer.now ws c.put_with-number.new.beside c.put_with-number.ensures.put.0)
     (λ fault. g.W.Writer.faults c.args.writer.now ws fault))
     (lent_lists c.take_room-place.new.blocks.slots c.args.self.now.content c.args.lent.now
     (c.take_room-place.ensures.content ∙ ap (λ (m : RegionState). m.content) c.self.view_is))
@@ -109,7 +109,8 @@ returns-clause-placed g c =
     elim c.match-written.branch [
       | in-Ok w ↦
           rw w.result-is (with_words g at.After-new-id
-          (g.W.Writer.writes c.args.writer.now (map (words_at c.args.self.now.content) c.args.lent.now))
+          (g.W.Writer.writes c.args.writer.now (map (words_at c.args.self.now.content) c.args.lent.now)
+          c.put_with-number.new.beside)
           (rw w.in-Ok.is at (told g at.After-new-id)))
       | in-Err w ↦ rw w.result-is tt
     ]

@@ -1,4 +1,4 @@
-use Rattle.std.proofs.Common.{◌≡◌, ℤ, List, map, sym, ap, subst, arith}
+use Rattle.std.proofs.Common.{◌≡◌, ℤ, List, length, map, sym, ap, subst, arith}
 use Rattle.std.specs.Prelude.{MatchResult}
 use Rattle.block_memory.specs.Content.{words_at}
 use Rattle.block_memory.specs.Layout.{content_of}
@@ -15,7 +15,7 @@ same g c = ap (λ (m : RegionState). m.content) c.self.view_is
 
 pub put_word_with-number-requires-clause-can : goal.put_word_with-number-requires-clause-can
 put_word_with-number-requires-clause-can g c =
-    subst (λ ws. g.W.Writer.can_write c.args.writer.now ws 1)
+    subst (λ ws. g.W.Writer.can_write c.args.writer.now ws (length c.args.beside.now) 1)
     (sym (lent_lists c.self.inside.blocks.slots c.args.self.now.content c.args.lent.now
     (ap (λ (m : RegionState). m.content) c.self.view_is))) c.requires.can
 
@@ -41,11 +41,11 @@ with_words g c is so =
 -- what the writer answered
 told : (g : Over) (c : goal.After-new-id g) → MatchResult c.put_word_with-number.result.1
     (λ _. g.W.Writer.writes c.args.writer.now (map (words_at c.args.self.now.content) c.args.lent.now)
-    c.put_word_with-number.ensures.put.0)
+    c.put_word_with-number.new.beside c.put_word_with-number.ensures.put.0)
     (λ fault. g.W.Writer.faults c.args.writer.now (map (words_at c.args.self.now.content) c.args.lent.now) fault)
 told g c =
     subst (λ ws. MatchResult c.put_word_with-number.result.1
-    (λ _. g.W.Writer.writes c.args.writer.now ws c.put_word_with-number.ensures.put.0)
+    (λ _. g.W.Writer.writes c.args.writer.now ws c.put_word_with-number.new.beside c.put_word_with-number.ensures.put.0)
     (λ fault. g.W.Writer.faults c.args.writer.now ws fault))
     (lent_lists c.self.inside.blocks.slots c.args.self.now.content c.args.lent.now (same g c))
     c.put_word_with-number.ensures.put.1.1
@@ -56,7 +56,8 @@ returns-clause-placed g c =
     elim c.match-written.branch [
       | in-Ok w ↦
           rw w.result-is (with_words g at.After-new-id
-          (g.W.Writer.writes c.args.writer.now (map (words_at c.args.self.now.content) c.args.lent.now))
+          (g.W.Writer.writes c.args.writer.now (map (words_at c.args.self.now.content) c.args.lent.now)
+          c.put_word_with-number.new.beside)
           (rw w.in-Ok.is at (told g at.After-new-id)))
       | in-Err w ↦ rw w.result-is tt
     ]

@@ -1,4 +1,4 @@
-use Rattle.std.proofs.Common.{◌≡◌, ℕ, ℤ, List, length, map, sym, ◌∙◌, ap, subst, refl}
+use Rattle.std.proofs.Common.{◌≡◌, ℕ, ℤ, List, [], length, map, sym, ◌∙◌, ap, subst, refl}
 use Rattle.std.specs.Prelude.{MatchResult}
 use Rattle.block_memory.specs.Content.{words_at}
 use Rattle.block_memory.specs.Layout.{words_at as slot_words_at}
@@ -38,10 +38,10 @@ rewrite_with-requires-clause-clear g c =
 pub rewrite_with-requires-clause-can : goal.rewrite_with-requires-clause-can
 rewrite_with-requires-clause-can g c =
     let at = (goal.at.rewrite_with-requires-clause-can g c).After-number in
-    subst (λ ws. g.R.Rewriter.can_rewrite c.args.rewriter.now ws
+    subst (λ ws. g.R.Rewriter.can_rewrite c.args.rewriter.now ws 0
     (slot_words_at c.self.inside.blocks.slots c.number.result)) (sym (lists g at))
     (subst (λ old. g.R.Rewriter.can_rewrite c.args.rewriter.now
-    (map (words_at c.args.self.now.content) c.args.lent.now) old) (sym (own g at)) c.requires.can)
+    (map (words_at c.args.self.now.content) c.args.lent.now) 0 old) (sym (own g at)) c.requires.can)
 
 pub invariant_of-self : goal.invariant_of-self
 invariant_of-self g c =
@@ -63,12 +63,12 @@ returns-clause-rewritten g c =
       same_length = e.same_length ∙ ap length (own g at);
       so =
           subst (λ ws. MatchResult c.rewrite_with.result
-          (λ _. g.R.Rewriter.rewrites c.args.rewriter.now ws (words_at c.args.self.now.content c.args.id) e.words)
+          (λ _. g.R.Rewriter.rewrites c.args.rewriter.now ws [] (words_at c.args.self.now.content c.args.id) e.words)
           (λ fault. g.R.Rewriter.faults_over c.args.rewriter.now ws (words_at c.args.self.now.content c.args.id) fault))
           (lists g at)
           (subst (λ old. MatchResult c.rewrite_with.result
           (λ _. g.R.Rewriter.rewrites c.args.rewriter.now
-          (map (slot_words_at c.self.inside.blocks.slots) c.args.lent.now) old e.words)
+          (map (slot_words_at c.self.inside.blocks.slots) c.args.lent.now) [] old e.words)
           (λ fault. g.R.Rewriter.faults_over c.args.rewriter.now
           (map (slot_words_at c.self.inside.blocks.slots) c.args.lent.now) old fault)) (own g at) e.so);
       rewritten = rw (e.rewritten, c.number.ensures, ← c.self.view_is) (rw c.number.ensures at rewritten.content);
