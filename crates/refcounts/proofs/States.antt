@@ -1,18 +1,16 @@
 -- What a memory of counted blocks shows, in the words of the memory of blocks and of the counts that it keeps.
-use Rattle.std.proofs.Common.{◌≡◌, ℕ, ◌+◌, ◌-◌, ◌<◌, List, length, get_or, set, Option, Some, None, sym, ◌∙◌, ap}
+use Rattle.std.proofs.Common.{◌≡◌, ℕ, ◌+◌, ◌-◌, ◌<◌, ◌≤◌, List, length, get_or, set, Option, Some, None, sym, ◌∙◌, ap}
 use Rattle.std.proofs.Common.{subst, arith}
-use Rattle.std.proofs.lemmas.List.{set-get_or}
+use Rattle.std.proofs.lemmas.List.{length-set, set-get_or}
 use Rattle.block_memory.specs.Content.{Block, Content, block_at, IsLive, owner_at, words_at, used_words, block_count}
 use Rattle.refcounts.specs.SharedState.{SharedState, empty_slot, slot_at, with_slot, state_after_share}
 use Rattle.refcounts.specs.SharedState.{state_after_release, used_words as used_words_of}
 use Rattle.refcounts.specs.SharedState.{block_count as block_count_of, IsLive as IsNamed}
-use Rattle.refcounts.specs.Inside.{slot_of, state_of, IsCounted}
+use Rattle.refcounts.specs.Inside.{slot_of, state_of, lengthened, IsCounted, HasCounts}
 use Rattle.refcounts.proofs.Slots.{slots_of-set, length-slots_of, words_in-slots_of, blocks_in-slots_of, live_is}
 use Rattle.refcounts.proofs.Slots.{live_within_content, count_is, owner_is, words_is, slots_shared, slots_released}
-use Rattle.refcounts.proofs.Slots.{slots_freed, none_is, same_slots, read_count, counted_set}
-
-Some≢None : (b : Block) → Some b ≡ None → ⊥
-Some≢None b e = cc
+use Rattle.refcounts.proofs.Slots.{slots_freed, none_is, same_slots, read_count, counted_set, count_there}
+use Rattle.refcounts.proofs.Slots.{Some≢None, slots_of-first}
 
 -- what is known of the memory as a whole
 pub record Totals (room : ℕ) (content : Content) (state : SharedState) : Type 0 where
@@ -26,9 +24,9 @@ pub totals : (room : ℕ) (content : Content) (counts : List ℕ) (state : Share
 totals room content counts state counted view =
     record {
       room_is = ap (λ (s : SharedState). s.room) view;
-      ids = sym (length-slots_of content counts counted.ids) ∙ ap (λ (s : SharedState). length s.slots) view;
-      used = sym (words_in-slots_of content counts counted.ids) ∙ ap (λ (s : SharedState). used_words_of s) view;
-      blocks = sym (blocks_in-slots_of content counts counted) ∙ ap (λ (s : SharedState). block_count_of s) view;
+      ids = sym (length-slots_of content counts) ∙ ap (λ (s : SharedState). length s.slots) view;
+      used = sym (words_in-slots_of content counts) ∙ ap (λ (s : SharedState). used_words_of s) view;
+      blocks = sym (blocks_in-slots_of content counts counted.live) ∙ ap (λ (s : SharedState). block_count_of s) view;
     }
 
 -- what is known of a block that references name
@@ -48,14 +46,17 @@ named_block room content counts state id counted view named =
     (record {
       live = live;
       inside = inside;
-      within = omega (arith, inside, counted.ids);
+      within = count_there content counts id counted here;
       count = sym (count_is content counts id counted);
-      owner = sym (owner_is content counts id counted.ids);
-      words = sym (words_is content counts id counted.ids);
+      owner = sym (owner_is content counts id);
+      words = sym (words_is content counts id);
     })
   where
+    here : IsNamed (state_of room content counts) id
+    here = subst (λ (s : SharedState). IsNamed s id) (sym view) named
+
     live : IsLive content id
-    live = live_is content counts id counted.ids (subst (λ (s : SharedState). IsNamed s id) (sym view) named)
+    live = live_is content counts id here
 
     inside : id < length content
     inside = live_within_content content id live
@@ -64,6 +65,7 @@ named_block room content counts state id counted view named =
 pub record NamedCount (content : Content) (counts : List ℕ) (state : SharedState) (id count : ℕ) : Type 0 where
   pub live : IsLive content id
   pub inside : id < length content
+  pub within : id < length counts
   pub read : count ≡ get_or counts id 0
   pub seen : count ≡ (slot_at state id).count
 
@@ -73,14 +75,20 @@ pub named_count : (room : ℕ) (content : Content) (counts : List ℕ) (state : 
 named_count room content counts state number id count counted view named same value =
     let block = named_block room content counts state id counted view named in
     let read = read_count counts number id count same block.within value in
-    record { live = block.live; inside = block.inside; read = read; seen = read ∙ block.count }
+    record {
+      live = block.live;
+      inside = block.inside;
+      within = block.within;
+      read = read;
+      seen = read ∙ block.count;
+    }
 
 -- a number that has no block
 pub slot_at-empty : (room : ℕ) (content : Content) (counts : List ℕ) (state : SharedState) (id : ℕ)
     → IsCounted content counts → state_of room content counts ≡ state → block_at content id ≡ None
     → slot_at state id ≡ empty_slot
 slot_at-empty room content counts state id counted view gone =
-    sym (ap (λ (s : SharedState). slot_at s id) view) ∙ none_is content counts id counted.ids gone
+    sym (ap (λ (s : SharedState). slot_at s id) view) ∙ none_is content counts id gone
 
 -- a block that one reference names, and other words in its place
 module _ (room : ℕ) (content : Content) (counts : List ℕ) (state : SharedState) (id : ℕ) (b : Block)
@@ -93,20 +101,32 @@ module _ (room : ℕ) (content : Content) (counts : List ℕ) (state : SharedSta
   same_counts : set counts id 1 ≡ counts
   same_counts = ap (set counts id) (sym (its_block.count ∙ single)) ∙ set-get_or counts id 0
 
-  pub counted-rewrite : IsCounted (set content id (Some b)) counts
-  counted-rewrite =
-      subst (λ (ns : List ℕ). IsCounted (set content id (Some b)) ns) same_counts
-      (counted_set content counts id (Some b) 1 counted its_block.inside (λ some. omega arith)
-      (λ e. absurd (Some≢None b e)))
+  pub counts-rewrite : (capacity : ℕ) → length content ≤ capacity → HasCounts (set content id (Some b)) counts capacity
+  counts-rewrite capacity room = record {
+    counted =
+        subst (λ (ns : List ℕ). IsCounted (set content id (Some b)) ns) same_counts
+        (counted_set content counts id (Some b) 1 counted its_block.inside its_block.within (λ some. omega arith)
+        (λ e. absurd (Some≢None b e)));
+    room = omega (arith, length-set content id (Some b), room);
+  }
 
 -- the state after a block and its count were put at a number
-pub state_of-set : (room : ℕ) (content : Content) (counts : List ℕ) (state : SharedState) (id : ℕ)
+state_of-set : (room : ℕ) (content : Content) (counts : List ℕ) (state : SharedState) (id : ℕ)
     (block : Option Block) (count : ℕ)
-    → state_of room content counts ≡ state
+    → id < length counts → state_of room content counts ≡ state
     → state_of room (set content id block) (set counts id count) ≡ with_slot state id (slot_of block count)
-state_of-set room content counts state id block count view =
-    same_slots room _ _ (slots_of-set content counts id block count)
+state_of-set room content counts state id block count within view =
+    same_slots room _ _ (slots_of-set content counts id block count within)
     ∙ ap (λ (s : SharedState). with_slot s id (slot_of block count)) view
+
+-- the state after a new block had its first reference
+pub state_of-first : (room : ℕ) (content : Content) (counts : List ℕ) (state : SharedState) (id : ℕ) (block : Block)
+    → state_of room content counts ≡ state
+    → state_of room (set content id (Some block)) (set (lengthened counts (id + 1)) id 1)
+    ≡ with_slot state id (slot_of (Some block) 1)
+state_of-first room content counts state id block view =
+    same_slots room _ _ (slots_of-first content counts id block)
+    ∙ ap (λ (s : SharedState). with_slot s id (slot_of (Some block) 1)) view
 
 -- the state after other words were written over those of a block
 pub state_of-rewrite : (room : ℕ) (content : Content) (counts : List ℕ) (state : SharedState) (id : ℕ) (b : Block)
@@ -115,7 +135,8 @@ pub state_of-rewrite : (room : ℕ) (content : Content) (counts : List ℕ) (sta
 state_of-rewrite room content counts state id b counted view single =
     ap (λ (ns : List ℕ). state_of room (set content id (Some b)) ns)
     (sym (same_counts room content counts state id b counted view single))
-    ∙ state_of-set room content counts state id (Some b) 1 view
+    ∙ state_of-set room content counts state id (Some b) 1
+    (its_block room content counts state id b counted view single).within view
 
 module _ (room : ℕ) (content : Content) (counts : List ℕ) (state : SharedState) (id : ℕ)
     (counted : IsCounted content counts) (view : state_of room content counts ≡ state) where
@@ -143,4 +164,4 @@ module _ (room : ℕ) (content : Content) (counts : List ℕ) (state : SharedSta
       subst (λ (s : SharedState). state_of room (set content id None)
       (set counts id (count - 1)) ≡ state_after_release s id) view
       (same_slots room _ _
-      (slots_freed content counts id (count - 1) (omega (arith, is, last, count_is content counts id counted))))
+      (slots_freed content counts id (count - 1) counted (omega (arith, is, last, count_is content counts id counted))))

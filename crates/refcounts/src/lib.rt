@@ -13,22 +13,25 @@ ghost use Rattle.refcounts.specs.SharedState.{empty_slot, slot_at, IsLive, IsTid
 ghost use Rattle.refcounts.specs.SharedState.{with_slot, new_slot, state_after_share, state_after_release};
 ghost use Rattle.refcounts.specs.SharedState.{state_after_releases, occurrences, AreNamed};
 
+mod counting;
 pub mod laws;
 mod making;
 mod rewriting;
 
 use block_memory::{BlockId, NoRoom, VectorMemory};
+use counting::count_first;
 use std::alloc::{AllocError, Allocator};
 use std::marker::Model;
 
 /// A vector memory whose blocks are counted.
 ///
-/// The counts are reserved once, when it is made. Its other calls take no memory of their own. A call that names a
-/// block has the condition that the block lives; [`count`](SharedMemory::count) alone takes any number.
+/// The room for the counts is reserved once, when it is made, and a count is written when its number is first used. Its
+/// other calls take no memory of their own. A call that names a block has the condition that the block lives;
+/// [`count`](SharedMemory::count) alone takes any number.
 #[derive(Drop)]
 pub struct SharedMemory<M: VectorMemory, A: Allocator> {
     memory: M,
-    /// By block number, 0 for a number without a block.
+    /// By block number, 0 for a number without a block. Numbers past the end had no block yet.
     counts: Vec<u64, A>,
 }
 
@@ -37,18 +40,19 @@ impl<M: VectorMemory, A: Allocator> Model for SharedMemory<M, A> {
 
     ghost Value = { SharedState };
 
-    ghost use Rattle.refcounts.specs.Inside.{state_of, IsCounted};
+    ghost use Rattle.std.specs.Prelude.{vec_capacity};
+    ghost use Rattle.refcounts.specs.Inside.{state_of, HasCounts};
 
     ghost view = { λ a. state_of (M.room a.memory) (M.content a.memory) a.counts.items };
 
-    ghost invariant = { λ a. IsCounted (M.content a.memory) a.counts.items };
+    ghost invariant = { λ a. HasCounts (M.content a.memory) a.counts.items (vec_capacity a.counts) };
 }
 
 impl<M: VectorMemory, A: Allocator> SharedMemory<M, A> {
     /// Counts the blocks of a memory, which holds none yet.
     ///
-    /// The counts take memory of `alloc` once, for as many blocks as the memory has numbers. An error means that the
-    /// allocator refused it; the memory is dropped then.
+    /// The counts take memory of `alloc` once, for as many blocks as the memory has numbers, and none of it is written
+    /// here. An error means that the allocator refused it; the memory is dropped then.
     pub fn new(alloc: A, memory: M) -> Result<Self, AllocError>
     where
         M: Drop,
@@ -59,7 +63,7 @@ impl<M: VectorMemory, A: Allocator> SharedMemory<M, A> {
               slots = replicate (length (M.content memory)) empty_slot;
             }) }
     {
-        let counts = vec![in alloc; 0; memory.ids()]?;
+        let counts = Vec::with_capacity(alloc, memory.ids())?;
         Ok(Self { memory, counts })
     }
 
@@ -79,7 +83,7 @@ impl<M: VectorMemory, A: Allocator> SharedMemory<M, A> {
         ensures err { OnErr result (self.new ≡ self.old) }
     {
         let id = self.memory.place(owner, words)?;
-        self.counts[id.number()] = 1;
+        count_first(&mut self.counts, id.number());
         Ok(id)
     }
 

@@ -5,6 +5,7 @@ ghost use Rattle.refcounts.specs.SharedState.{AreLive, used_words, block_count};
 ghost use Rattle.refcounts.specs.Making.{IsMadeWith, words_at};
 
 use crate::SharedMemory;
+use crate::counting::count_first;
 use block_memory::{BlockId, LendingMemory, Writer};
 use std::alloc::Allocator;
 
@@ -36,7 +37,7 @@ impl<M: LendingMemory, A: Allocator> SharedMemory<M, A> {
     {
         match self.memory.place_with(owner, len, lent, writer, beside) {
             Ok(id) => {
-                self.counts[id.number()] = 1;
+                count_first(&mut self.counts, id.number());
                 Ok(id)
             }
             Err(fault) => Err(fault),

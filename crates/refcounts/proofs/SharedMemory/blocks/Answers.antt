@@ -4,7 +4,7 @@ use Rattle.refcounts.proofs.States.{totals}
 use Rattle.refcounts.proofs.SharedMemory.blocks.Goals as goal
 
 pub returns-clause-value : goal.returns-clause-value
-returns-clause-value g c = c.blocks-2.ensures ∙ (totals _ _ _ _ c.self.invariant c.self.view_is).blocks
+returns-clause-value g c = c.blocks-2.ensures ∙ (totals _ _ _ _ c.self.invariant.counted c.self.view_is).blocks
 
 pub returns-clause-within : goal.returns-clause-within
 returns-clause-within g c =

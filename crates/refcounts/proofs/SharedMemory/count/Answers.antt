@@ -10,9 +10,9 @@ returns-clause-value g c =
     ∙ (ap (λ (counts : List ℕ). get_or counts c.number.result 0) c.deref.ensures.value
     ∙ (ap (λ n. get_or c.self.inside.counts.items n 0) c.number.ensures
     ∙ (sym (count_is (g.M.VectorMemory.content c.self.inside.memory) c.self.inside.counts.items c.args.id
-    c.self.invariant) ∙ ap (λ (m : SharedState). (slot_at m c.args.id).count) c.self.view_is)))
+    c.self.invariant.counted) ∙ ap (λ (m : SharedState). (slot_at m c.args.id).count) c.self.view_is)))
 
 pub returns-clause-tidy : goal.returns-clause-tidy
 returns-clause-tidy g c =
     subst IsTidy c.self.view_is (λ id. tidy_is (g.M.VectorMemory.content c.self.inside.memory)
-    c.self.inside.counts.items id c.self.invariant)
+    c.self.inside.counts.items id c.self.invariant.counted)

@@ -3,8 +3,8 @@ use Rattle.refcounts.proofs.States.{named_block}
 use Rattle.refcounts.proofs.SharedMemory.len.Goals as goal
 
 pub len-requires : goal.len-requires
-len-requires g c = (named_block _ _ _ _ c.args.id c.self.invariant c.self.view_is c.requires).live
+len-requires g c = (named_block _ _ _ _ c.args.id c.self.invariant.counted c.self.view_is c.requires).live
 
 pub returns : goal.returns
 returns g c =
-    c.len.ensures ∙ ap length (named_block _ _ _ _ c.args.id c.self.invariant c.self.view_is c.requires).words
+    c.len.ensures ∙ ap length (named_block _ _ _ _ c.args.id c.self.invariant.counted c.self.view_is c.requires).words

@@ -1,15 +1,15 @@
-use Rattle.std.proofs.Common.{rules, ◌≡◌, length}
+use Rattle.std.proofs.Common.{◌≡◌, [], length}
 use Rattle.std.specs.Prelude.{replicate}
 use Rattle.refcounts.specs.SharedState.{empty_slot}
 use Rattle.refcounts.specs.Inside.{slots_of}
 use Rattle.refcounts.proofs.Slots.{slots_of_none, same_slots}
 use Rattle.refcounts.proofs.SharedMemory.new.Goals as goal
 
--- Each count is 0, and no number has a block.
+-- There is no count, and no number has a block.
 pub returns : goal.returns
 returns g c =
-    let zeros : c.in_ok-counts.counts.items ≡ replicate c.ids.result 0 = search rules in
+    let none : c.in_ok-counts.counts.items ≡ [] = c.in_ok-counts.ensures.items in
     let content = g.M.VectorMemory.content c.args.memory in
     same_slots (g.M.VectorMemory.room c.args.memory) (slots_of content c.in_ok-counts.counts.items)
     (replicate (length content) empty_slot)
-    (rw (zeros, c.ids.ensures) (slots_of_none content c.requires))
+    (rw none (slots_of_none content c.requires))

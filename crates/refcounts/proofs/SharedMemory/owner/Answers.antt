@@ -3,7 +3,7 @@ use Rattle.refcounts.proofs.States.{named_block}
 use Rattle.refcounts.proofs.SharedMemory.owner.Goals as goal
 
 pub owner-requires : goal.owner-requires
-owner-requires g c = (named_block _ _ _ _ c.args.id c.self.invariant c.self.view_is c.requires).live
+owner-requires g c = (named_block _ _ _ _ c.args.id c.self.invariant.counted c.self.view_is c.requires).live
 
 pub returns : goal.returns
-returns g c = c.owner.ensures ∙ (named_block _ _ _ _ c.args.id c.self.invariant c.self.view_is c.requires).owner
+returns g c = c.owner.ensures ∙ (named_block _ _ _ _ c.args.id c.self.invariant.counted c.self.view_is c.requires).owner

@@ -4,7 +4,7 @@ use Rattle.block_memory.specs.Content.{words_at as words_in}
 use Rattle.refcounts.specs.SharedState.{SharedState, IsLive, with_slot, new_slot}
 use Rattle.refcounts.specs.Making.{words_at}
 use Rattle.refcounts.proofs.Slots.{words_is}
-use Rattle.refcounts.proofs.States.{NamedBlock, named_block, counted-rewrite, state_of-rewrite}
+use Rattle.refcounts.proofs.States.{NamedBlock, named_block, counts-rewrite, state_of-rewrite}
 use Rattle.refcounts.proofs.SharedMemory.rewrite_with.Given.{Over}
 use Rattle.refcounts.proofs.SharedMemory.rewrite_with.Goals as goal
 use Rattle.refcounts.proofs.SharedMemory.rewrite_with.Goals.{After-self}
@@ -14,14 +14,14 @@ lists : (g : Over) (c : After-self g) →
     ≡ map (words_at c.args.self.now) c.args.lent.now
 lists g c =
     let content = g.M.VectorMemory.content c.self.inside.memory in
-    (λ i. map (λ n. sym (words_is content c.self.inside.counts.items n c.self.invariant.ids) i) c.args.lent.now)
+    (λ i. map (λ n. sym (words_is content c.self.inside.counts.items n) i) c.args.lent.now)
     ∙ ap (λ (s : SharedState). map (words_at s) c.args.lent.now) c.self.view_is
 
 block : (g : Over) (c : After-self g) →
     NamedBlock (g.M.VectorMemory.content c.self.inside.memory) c.self.inside.counts.items c.args.self.now c.args.id
 block g c =
     let here : IsLive c.args.self.now c.args.id = omega (arith, c.requires.single) in
-    named_block _ _ _ _ c.args.id c.self.invariant c.self.view_is here
+    named_block _ _ _ _ c.args.id c.self.invariant.counted c.self.view_is here
 
 pub rewrite_with-requires-clause-live : goal.rewrite_with-requires-clause-live
 rewrite_with-requires-clause-live g c =
@@ -29,7 +29,7 @@ rewrite_with-requires-clause-live g c =
 
 pub rewrite_with-requires-clause-lent_live : goal.rewrite_with-requires-clause-lent_live
 rewrite_with-requires-clause-lent_live g c k d within =
-    (named_block _ _ _ _ _ c.self.invariant c.self.view_is (c.requires.live k d within)).live
+    (named_block _ _ _ _ _ c.self.invariant.counted c.self.view_is (c.requires.live k d within)).live
 
 pub rewrite_with-requires-clause-can : goal.rewrite_with-requires-clause-can
 rewrite_with-requires-clause-can g c =
@@ -42,7 +42,8 @@ rewrite_with-requires-clause-can g c =
 pub invariant_of-self : goal.invariant_of-self
 invariant_of-self g c =
     rw c.rewrite_with.ensures.rewritten.rewritten
-    (counted-rewrite _ _ _ _ c.args.id _ c.self.invariant c.self.view_is c.requires.single)
+    (counts-rewrite _ _ _ _ c.args.id _ c.self.invariant.counted c.self.view_is c.requires.single _
+    c.self.invariant.room)
 
 pub returns : goal.returns
 returns g c =
@@ -63,6 +64,6 @@ returns g c =
           (block g at).words e.so);
       rewritten =
           rw (c.rewrite_with.ensures.same_room, e.rewritten)
-          (state_of-rewrite _ _ _ _ c.args.id _ c.self.invariant c.self.view_is c.requires.single)
+          (state_of-rewrite _ _ _ _ c.args.id _ c.self.invariant.counted c.self.view_is c.requires.single)
           ∙ ap (λ n. with_slot c.args.self.now c.args.id (new_slot n e.words)) (block g at).owner;
     }
