@@ -1,16 +1,14 @@
-//! Readers that have no end, schedules as texts, the texts of faults, batches whose jobs worker threads or lanes run,
-//! and whole runs over a heap that holds few bytes.
+//! Schedules as texts, the texts of faults, batches whose jobs worker threads or lanes run, and whole runs over a heap
+//! that holds few bytes.
 //!
 //! That two workers compute at once no contract says: a gate sees it, which holds the first steps of two jobs until
 //! both are between their begin and their finish.
 
 mod batches;
 mod calls;
-mod devices;
 mod faults;
 mod heaps;
 mod lanes;
-mod machines;
 mod meeting;
 mod reports;
 mod runs;

@@ -1,6 +1,9 @@
-//! Batches.
+//! Batches, and a machine of one.
 
+use crate::machines::{REGION, machine};
+use job_machine::Machine;
 use std::alloc::{AllocError, Global};
+use std::test::Fail;
 use test_support::TWELVE_JOBS;
 
 /// The instructions that the two jobs of `test_support` execute.
@@ -21,8 +24,8 @@ pub const DIVISIONS: &[u8] = b"JOB one 80000 16 4 100\nSIGNATURES\nMAIN () -> ()
 /// The words of both together.
 pub const DIVISION_WORDS: usize = 160_000;
 
-/// The instructions that both execute.
-pub const EXECUTED_BY_DIVISIONS: u64 = 44;
+/// The instructions that each executes: four to make the vector, four for each division, and two to end.
+pub const EXECUTED_BY_DIVISIONS: [u64; 2] = [22, 22];
 
 /// The twelve jobs after this line.
 ///
@@ -31,6 +34,16 @@ pub const EXECUTED_BY_DIVISIONS: u64 = 44;
 /// [`AllocError`] if memory for the text was refused.
 pub(crate) fn twelve_jobs_by(alloc: Global, rule_line: &str) -> Result<String, AllocError> {
     format!(in alloc; "{rule_line}{TWELVE_JOBS}")
+}
+
+/// A machine of the twelve jobs after this line.
+///
+/// # Errors
+///
+/// An error if memory was refused.
+pub(crate) fn machine_of_twelve(alloc: Global, rule_line: &str) -> Result<Machine<Global>, Fail> {
+    let batch = twelve_jobs_by(alloc, rule_line)?;
+    machine(alloc, batch.as_bytes(), REGION)
 }
 
 /// The line by which jobs run by the second rule.

@@ -1,12 +1,13 @@
 //! Jobs that run by themselves, on lanes.
 
 use crate::fronts::batches::{
-    EXECUTED_BY_THE_SECOND_RULE, EXECUTED_BY_TWELVE, EXECUTED_BY_TWO, SECOND_RULE, twelve_jobs_by,
+    EXECUTED_BY_THE_SECOND_RULE, EXECUTED_BY_TWELVE, EXECUTED_BY_TWO, SECOND_RULE,
+    machine_of_twelve,
 };
-use crate::fronts::machines::{REGION, machine};
-use crate::fronts::runs::are_the_twelve;
+use crate::fronts::runs::have_executed;
+use crate::machines::{REGION, machine};
 use job_lanes::run_lanes;
-use job_machine::{EndedJob, Machine, Status};
+use job_machine::{EndedJob, Lane, Machine, Status};
 use std::alloc::Global;
 use std::process::Abort;
 use std::sync::Wait;
@@ -14,14 +15,26 @@ use std::test::Fail;
 use std::thread::Threads;
 use test_support::TWO_JOBS;
 
-/// A job of a machine, run on a lane.
-fn ended(alloc: Global, machine: &Machine<Global>, job: usize) -> Result<EndedJob<Global>, Fail> {
-    let lane = machine.lane(alloc, REGION)?;
+/// A job of a lane, run on it. The lane goes.
+fn ended_on(lane: Lane<Global>, alloc: Global, job: usize) -> Result<EndedJob<Global>, Fail> {
     if job == 0 || job > lane.jobs() {
+        drop(lane);
         return Err(Fail::from("there is no such job"));
     }
-    let (_, ended) = lane.run(alloc, job)?;
+    let (lane, ended) = lane.run(alloc, job)?;
+    drop(lane);
     Ok(ended)
+}
+
+/// A job of a machine, run on a lane.
+fn ended(alloc: Global, machine: &Machine<Global>, job: usize) -> Result<EndedJob<Global>, Fail> {
+    ended_on(machine.lane(alloc, REGION)?, alloc, job)
+}
+
+/// Whether a machine takes over the end of its second job.
+fn takes_over_the_second(alloc: Global, machine: &mut Machine<Global>) -> Result<bool, Fail> {
+    let second = ended(alloc, machine, 2)?;
+    Ok(machine.adopt(second))
 }
 
 /// The second of two jobs is taken over, once.
@@ -30,31 +43,48 @@ fn the_second_is_taken_over(
     alloc: Global,
     machine: &mut Machine<Global>,
 ) -> Result<(), Fail> {
-    let second = ended(alloc, machine, 2)?;
-    assert!(rt; machine.adopt(second));
+    assert!(rt; takes_over_the_second(alloc, machine)?);
     assert_eq!(rt; machine.status(1), Some(Status::Waiting));
     assert_eq!(rt; machine.status(2), Some(Status::Collected));
     assert_eq!(rt; machine.executed(2), Some(EXECUTED_BY_TWO[1]));
-    let again = ended(alloc, machine, 2)?;
-    assert!(rt; !machine.adopt(again));
+    assert!(rt; !takes_over_the_second(alloc, machine)?);
+    Ok(())
+}
+
+/// The end of the first of the twelve jobs by the first rule.
+fn end_by_the_first_rule(alloc: Global) -> Result<EndedJob<Global>, Fail> {
+    let machine = machine_of_twelve(alloc, "")?;
+    let ended = ended(alloc, &machine, 1);
+    drop(machine);
+    ended
+}
+
+/// A machine takes over no end of a job of another machine.
+fn another_end_is_left(
+    rt: &impl Abort,
+    alloc: Global,
+    machine: &mut Machine<Global>,
+) -> Result<(), Fail> {
+    let other = end_by_the_first_rule(alloc)?;
+    assert!(rt; !machine.adopt(other));
+    assert_eq!(rt; machine.status(1), Some(Status::Waiting));
     Ok(())
 }
 
 #[test]
 fn a_machine_takes_over_an_end_once(rt: HostRuntime) -> Result<(), Fail> {
-    let mut machine = machine(rt.alloc(), TWO_JOBS)?;
-    the_second_is_taken_over(&rt, rt.alloc(), &mut machine)
+    let mut machine = machine(rt.alloc(), TWO_JOBS, REGION)?;
+    let tried = the_second_is_taken_over(&rt, rt.alloc(), &mut machine);
+    drop(machine);
+    tried
 }
 
 #[test]
 fn a_machine_takes_over_no_end_of_another_job(rt: HostRuntime) -> Result<(), Fail> {
-    let twelve = twelve_jobs_by(rt.alloc(), "")?;
-    let other = machine(rt.alloc(), twelve.as_bytes())?;
-    let by_second = twelve_jobs_by(rt.alloc(), SECOND_RULE)?;
-    let mut machine = machine(rt.alloc(), by_second.as_bytes())?;
-    assert!(rt; !machine.adopt(ended(rt.alloc(), &other, 1)?));
-    assert_eq!(rt; machine.status(1), Some(Status::Waiting));
-    Ok(())
+    let mut machine = machine_of_twelve(rt.alloc(), SECOND_RULE)?;
+    let tried = another_end_is_left(&rt, rt.alloc(), &mut machine);
+    drop(machine);
+    tried
 }
 
 /// The jobs of a batch of twelve, run on this number of lanes, have executed these numbers of instructions.
@@ -63,15 +93,15 @@ fn lanes_execute<R>(
     alloc: Global,
     rule_line: &str,
     lanes: usize,
-    executed: &[u64; 12],
+    executed: &[u64],
 ) -> Result<(), Fail>
 where
     R: Abort + Threads + Wait + Sync,
 {
-    let batch = twelve_jobs_by(alloc, rule_line)?;
-    let machine = machine(alloc, batch.as_bytes())?;
+    let machine = machine_of_twelve(alloc, rule_line)?;
     let machine = run_lanes(rt, alloc, machine, REGION, lanes)?;
-    assert!(rt; are_the_twelve(&machine, executed));
+    have_executed(rt, &machine, executed);
+    drop(machine);
     Ok(())
 }
 

@@ -1,6 +1,7 @@
 //! Workers that meet in the middle of a step.
 
 use crate::fronts::calls::Calls;
+use std::process::Abort;
 use std::rt::Clock;
 use std::sync::atomic::{AtomicU64, Ordering};
 use std::thread;
@@ -31,19 +32,11 @@ impl<'a, R: Clock> Meeting<'a, R> {
         }
     }
 
-    /// Whether both first steps met the other.
-    pub(crate) fn have_met(&self) -> bool {
-        self.met.load(Ordering::SeqCst) == 3
-    }
-
-    /// How many steps came.
-    pub(crate) fn calls(&self) -> u64 {
-        self.calls.count()
-    }
-
-    /// How often a worker was to go on with a job that couldn't begin a step.
-    pub(crate) fn refused_jobs(&self) -> u64 {
-        self.calls.refused_jobs()
+    /// Both first steps have met the other, this many steps have passed, and each job was with one worker at a time.
+    pub(crate) fn has_let_pass(&self, rt: &impl Abort, steps: u64) {
+        assert_eq!(rt; self.met.load(Ordering::SeqCst), 3);
+        assert_eq!(rt; self.calls.count(), steps);
+        assert_eq!(rt; self.calls.refused_jobs(), 0);
     }
 }
 

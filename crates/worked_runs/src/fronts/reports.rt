@@ -6,8 +6,8 @@ ghost use Rattle.job_lanes.specs.declared.lanes.TheConstants.{MOST_LANES};
 
 use crate::fronts::batches::{SECOND_RULE, twelve_jobs_by};
 use crate::fronts::calls::Calls;
-use crate::fronts::machines::REGION;
 use crate::fronts::meeting::Meeting;
+use crate::machines::REGION;
 use batch_front::{Device, FrontFault, Gate, Options, Status, parse_schedule, run};
 use std::alloc::Global;
 use std::process::Abort;
@@ -50,96 +50,115 @@ where
     (outcome, writer.into_inner())
 }
 
-/// The options of a run by `workers` workers, without a schedule.
-fn options_of(workers: u32) -> Options
-    requires { (1 ≤ workers) × (workers ≤ MOST_WORKERS) }
+/// The options of a run by `workers` workers, or on `lanes` lanes if there is more than one, without a schedule.
+fn options_of(workers: u32, lanes: u32) -> Options
+    requires workers { (1 ≤ workers) × (workers ≤ MOST_WORKERS) }
+    requires lanes { (1 ≤ lanes) × (lanes ≤ MOST_LANES) }
 {
     Options {
         region: REGION as u32,
         workers,
-        lanes: 1,
-        schedule: None,
-    }
-}
-
-/// The options of a run on `lanes` lanes.
-fn options_on(lanes: u32) -> Options
-    requires { (1 ≤ lanes) × (lanes ≤ MOST_LANES) }
-{
-    Options {
-        region: REGION as u32,
-        workers: 2,
         lanes,
         schedule: None,
     }
 }
 
-#[test]
-fn two_workers_compute_at_once(rt: HostRuntime) {
-    let gate = Meeting::new(&rt);
-    let (outcome, report) = ending(&rt, rt.alloc(), TWO_JOBS, &options_of(2), &gate);
-    assert!(rt; gate.have_met());
-    assert_eq!(rt; gate.calls(), 6);
-    assert_eq!(rt; outcome, Ok(Status::AllReturned));
-    assert_eq!(rt; report.as_slice(), REPORT_ON_TWO);
-}
-
-/// Jobs of which some don't return, run so, have this report.
-fn reports<H, G>(rt: &H, alloc: Global, batch: &str, options: &Options, gate: &G, wanted: &[u8])
+/// A batch, run so, has this status and this report.
+fn reports<H, G>(
+    rt: &H,
+    alloc: Global,
+    batch: &[u8],
+    options: Options,
+    gate: &G,
+    status: Status,
+    wanted: &[u8],
+)
 where
     H: Abort + Threads + Wait + Sync,
     G: Gate + Sync,
 {
-    let (outcome, report) = ending(rt, alloc, batch.as_bytes(), options, gate);
-    assert_eq!(rt; outcome, Ok(Status::SomeNot), "{options:?}");
-    assert_eq!(rt; report.as_slice(), wanted, "{options:?}");
+    let (outcome, report) = ending(rt, alloc, batch, &options, gate);
+    assert_eq!(rt;
+        (outcome, report.as_slice()),
+        (Ok(status), wanted),
+        "{options:?}"
+    );
+    drop(report);
+    drop(options);
+}
+
+#[test]
+fn two_workers_compute_at_once(rt: HostRuntime) {
+    let gate = Meeting::new(&rt);
+    let status = Status::AllReturned;
+    reports(
+        &rt,
+        rt.alloc(),
+        TWO_JOBS,
+        options_of(2, 1),
+        &gate,
+        status,
+        REPORT_ON_TWO,
+    );
+    gate.has_let_pass(&rt, 6);
+}
+
+/// The twelve jobs, run so, have their report. How many steps workers have taken.
+fn steps_of_twelve<H>(rt: &H, alloc: Global, options: Options) -> u64
+where
+    H: Abort + Threads + Wait + Sync,
+{
+    let gate = Calls::new();
+    let batch = TWELVE_JOBS.as_bytes();
+    let wanted = REPORT_ON_TWELVE;
+    reports(rt, alloc, batch, options, &gate, Status::SomeNot, wanted);
+    gate.count()
+}
+
+/// The same by the second rule.
+fn steps_by_the_second_rule<H>(rt: &H, alloc: Global, options: Options) -> Result<u64, Fail>
+where
+    H: Abort + Threads + Wait + Sync,
+{
+    let batch = twelve_jobs_by(alloc, SECOND_RULE)?;
+    let gate = Calls::new();
+    let wanted = REPORT_BY_THE_SECOND_RULE;
+    reports(
+        rt,
+        alloc,
+        batch.as_bytes(),
+        options,
+        &gate,
+        Status::SomeNot,
+        wanted,
+    );
+    drop(batch);
+    Ok(gate.count())
 }
 
 #[test]
 fn each_number_of_workers_gives_the_same_report(rt: HostRuntime) {
     for workers in 1..MOST_WORKERS as u32 + 1 {
-        let options = options_of(workers);
-        reports(
-            &rt,
-            rt.alloc(),
-            TWELVE_JOBS,
-            &options,
-            &Calls::new(),
-            REPORT_ON_TWELVE,
-        );
+        let _ = steps_of_twelve(&rt, rt.alloc(), options_of(workers, 1));
     }
 }
 
 #[test]
 fn the_second_rule_has_its_report(rt: HostRuntime) -> Result<(), Fail> {
-    let batch = twelve_jobs_by(rt.alloc(), SECOND_RULE)?;
-    let wanted = REPORT_BY_THE_SECOND_RULE;
     for workers in [1, 2, 16] {
-        let options = options_of(workers);
-        reports(&rt, rt.alloc(), &batch, &options, &Calls::new(), wanted);
+        let _ = steps_by_the_second_rule(&rt, rt.alloc(), options_of(workers, 1))?;
     }
     Ok(())
 }
 
 #[test]
 fn each_number_of_lanes_gives_the_same_report(rt: HostRuntime) -> Result<(), Fail> {
-    let second = twelve_jobs_by(rt.alloc(), SECOND_RULE)?;
-    let by_second = REPORT_BY_THE_SECOND_RULE;
-    let gate = Calls::new();
     for lanes in [2, 3, 16] {
-        let options = options_on(lanes);
-        reports(
-            &rt,
-            rt.alloc(),
-            TWELVE_JOBS,
-            &options,
-            &gate,
-            REPORT_ON_TWELVE,
-        );
-        reports(&rt, rt.alloc(), &second, &options, &gate, by_second);
+        let first = steps_of_twelve(&rt, rt.alloc(), options_of(2, lanes));
+        let second = steps_by_the_second_rule(&rt, rt.alloc(), options_of(2, lanes))?;
+        // No worker has taken a step.
+        assert_eq!(rt; (first, second), (0, 0));
     }
-    // No worker has taken a step.
-    assert_eq!(rt; gate.count(), 0);
     Ok(())
 }
 
@@ -158,19 +177,10 @@ fn options_by(alloc: Global, list: &str) -> Result<Options, Fail> {
 
 #[test]
 fn each_schedule_gives_the_same_report(rt: HostRuntime) -> Result<(), Fail> {
-    let gate = Calls::new();
     for list in ["1,2,3", "b5,1,f5", "12,11,10"] {
-        let options = options_by(rt.alloc(), list)?;
-        reports(
-            &rt,
-            rt.alloc(),
-            TWELVE_JOBS,
-            &options,
-            &gate,
-            REPORT_ON_TWELVE,
-        );
+        let steps = steps_of_twelve(&rt, rt.alloc(), options_by(rt.alloc(), list)?);
+        // No worker has taken a step.
+        assert_eq!(rt; steps, 0);
     }
-    // No worker has taken a step.
-    assert_eq!(rt; gate.count(), 0);
     Ok(())
 }

@@ -24,23 +24,21 @@ const COPIES: [(i64, usize); 10] = [
     (i64::MIN, 8_000),
 ];
 
-/// The bytes that a copy of these words takes, beside those of a copy of no words.
+/// The bytes that a copy of these words takes.
 fn bytes_of(heap: &Heap, words: &[i64]) -> Result<usize, AllocError> {
-    let _none = SharedWords::copy_of(heap, &[])?;
-    let beside = heap.live_bytes();
-    let _copy = SharedWords::copy_of(heap, words)?;
-    Ok(
-        heap.live_bytes()
-            .saturating_sub(beside)
-            .saturating_sub(beside),
-    )
+    let before = heap.live_bytes();
+    let copy = SharedWords::copy_of(heap, words)?;
+    let bytes = heap.live_bytes().saturating_sub(before);
+    drop(copy);
+    Ok(bytes)
 }
 
-/// Zeros and this word take this many bytes.
+/// A copy of zeros and this word takes this many bytes, beside those that a copy of no words takes.
 fn takes(rt: &impl Abort, heap: &Heap, word: i64, bytes: usize) -> Result<(), Fail> {
     let mut words = [0; WORDS];
     words[WORDS - 1] = word;
-    assert_eq!(rt; bytes_of(heap, &words)?, bytes);
+    let beside = bytes_of(heap, &[])?;
+    assert_eq!(rt; bytes_of(heap, &words)?.saturating_sub(beside), bytes);
     Ok(())
 }
 

@@ -1,22 +1,12 @@
 //! Whole runs from readers and to writers that fail, on the calling thread, by workers and on lanes.
 use crate::refusals::batches::{ONE_JOB, REPORT_ON_ONE};
 use crate::refusals::devices::{Failure, Reader, Writer};
-use batch_front::{Device, FrontFault, NoGate, Options, Status, run, run_alone};
+use crate::refusals::ways::{WAYS, Way, ending};
+use batch_front::{FrontFault, NoGate, Status};
 use std::alloc::Global;
 use std::process::Abort;
 use std::sync::Wait;
 use std::thread::Threads;
-
-/// Which threads run the jobs.
-#[derive(Clone, Copy)]
-enum Way {
-    Alone,
-    ByWorkers,
-    OnLanes,
-}
-
-/// All ways.
-const WAYS: [Way; 3] = [Way::Alone, Way::ByWorkers, Way::OnLanes];
 
 /// What goes wrong with the devices of a run.
 #[derive(Clone, Copy)]
@@ -68,38 +58,19 @@ impl Trouble {
     }
 }
 
-/// The answer of a run, and what was written.
-type Ending = (Result<Status, FrontFault>, Vec<u8>);
-
-/// The ending of a run with this trouble.
-fn ending<R>(rt: &R, alloc: Global, way: Way, trouble: Trouble) -> Ending
+/// The answer of a run with this trouble, and what was written.
+fn ending_with<R>(
+    rt: &R,
+    alloc: Global,
+    way: Way,
+    trouble: Trouble,
+) -> (Result<Status, FrontFault>, Vec<u8>)
 where
     R: Threads + Wait + Sync,
 {
-    let lanes = match way {
-        Way::OnLanes => 2,
-        Way::Alone | Way::ByWorkers => 1,
-    };
-    let options = Options {
-        region: 64,
-        workers: 2,
-        lanes,
-        schedule: None,
-    };
-    let mut reader = Device::new(trouble.reader());
-    let mut writer = Device::new(trouble.writer(alloc));
-    let outcome = match way {
-        Way::Alone => run_alone(alloc, &mut reader, &mut writer, &options),
-        Way::ByWorkers | Way::OnLanes => run(
-            rt,
-            alloc,
-            &mut reader,
-            &mut writer,
-            &options,
-            &NoGate,
-        ),
-    };
-    let Writer { taken, .. } = writer.into_inner();
+    let (reader, writer) = (trouble.reader(), trouble.writer(alloc));
+    let (outcome, writer) = ending(rt, alloc, way, 64, reader, writer, &NoGate);
+    let Writer { taken, .. } = writer;
     (outcome, taken)
 }
 
@@ -115,8 +86,9 @@ where
     R: Abort + Threads + Wait + Sync,
 {
     for way in WAYS {
-        let (ended, written) = ending(rt, alloc, way, trouble);
+        let (ended, written) = ending_with(rt, alloc, way, trouble);
         assert_eq!(rt; (ended, written.as_slice()), (outcome, report));
+        drop(written);
     }
 }
 

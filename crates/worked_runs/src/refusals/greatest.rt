@@ -19,6 +19,7 @@ fn late_code_is_read(rt: &impl Abort, heap: &Heap) -> Result<(), Fail> {
     };
     assert_eq!(rt; program.first_line(), LATE_LINE);
     assert_eq!(rt; program.functions().len(), 1);
+    drop(program);
     Ok(())
 }
 

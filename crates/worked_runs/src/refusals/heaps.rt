@@ -1,4 +1,5 @@
 //! The heap that refuses.
+use job_machine::Machine;
 use std::alloc::Global;
 use std::process::Abort;
 use std::test::Fail;
@@ -6,6 +7,9 @@ use test_support::RefusingHeap;
 
 /// The heap of these tests.
 pub type Heap = RefusingHeap<Global>;
+
+/// A machine over this heap.
+pub type HeapMachine<'h> = Machine<&'h Heap>;
 
 /// More growths than any call of these tests asks for.
 pub const MOST_GROWTHS: u64 = 10_000;

@@ -1,7 +1,7 @@
 //! Replays, of which each growth is refused in turn.
 
-use crate::refusals::heaps::{Heap, MOST_GROWTHS};
-use crate::refusals::machines::{HeapMachine, REGION, machine};
+use crate::machines::{REGION, machine};
+use crate::refusals::heaps::{Heap, HeapMachine, MOST_GROWTHS};
 use crate::refusals::snapshots::{Snapshot, both_have_returned, snapshot_of};
 use job_machine::{Begun, Desk, Event, ReplayFault, Status};
 use std::process::Abort;
@@ -31,19 +31,25 @@ const EVENTS: [Event; 16] = [
 /// The places of the events that collect.
 const COLLECTIONS: [usize; 2] = [9, 15];
 
-/// The first job of a machine begins a step on this desk.
-fn begins<'h>(rt: &impl Abort, machine: &mut HeapMachine<'h>, desk: Desk<&'h Heap>) {
+/// The first job of a machine begins a step.
+fn begins<'h>(rt: &impl Abort, heap: &'h Heap, machine: &mut HeapMachine<'h>) -> Result<(), Fail> {
+    let desk = Desk::new(heap, REGION)?;
     machine.admit();
     let begun = machine.begin(1, desk);
     assert!(rt; matches!(&begun, Begun::Began(_)));
+    drop(begun);
     assert_eq!(rt; machine.status(1), Some(Status::InFlight));
+    Ok(())
 }
 
 /// What a machine shows on which these events were done, and nothing is in flight.
 fn snapshot_after(rt: &impl Abort, heap: &Heap, events: &[Event]) -> Result<Snapshot, Fail> {
-    let mut machine = machine(heap, TWO_JOBS)?;
-    assert_eq!(rt; machine.replay(heap, events), Ok(()));
-    Ok(snapshot_of(&machine))
+    let mut machine = machine(heap, TWO_JOBS, REGION)?;
+    let replayed = machine.replay(heap, events);
+    let shown = snapshot_of(&machine);
+    drop(machine);
+    assert_eq!(rt; replayed, Ok(()));
+    Ok(shown)
 }
 
 /// What a machine shows after a replay that was refused memory. None if the replay wasn't.
@@ -66,13 +72,14 @@ fn wanted(
     }
 }
 
-/// The memory that a replay is refused, if it is. All is then as it has to be.
+/// The memory that a replay is refused, if it is. All is then as it has to be. The first job has begun a step before.
 fn refused_replay<'h>(
     rt: &impl Abort,
     heap: &'h Heap,
     machine: &mut HeapMachine<'h>,
     growth: u64,
 ) -> Result<Option<ReplayFault>, Fail> {
+    begins(rt, heap, machine)?;
     let before = snapshot_of(machine);
     heap.refuse(growth);
     let refused = machine.replay(heap, &EVENTS).err();
@@ -80,21 +87,21 @@ fn refused_replay<'h>(
     heap.refuse(0);
     match wanted(rt, heap, before, refused)? {
         None => assert!(rt; both_have_returned(machine)),
-        Some(wanted) => assert_eq!(rt; snapshot_of(machine), wanted),
+        Some(wanted) => assert!(rt; snapshot_of(machine) == wanted),
     }
     Ok(refused)
 }
 
-/// The same of a machine that is made for it, whose first job has begun a step.
+/// The same of a machine that is made for it.
 fn refused_replay_of_new(
     rt: &impl Abort,
     heap: &Heap,
     growth: u64,
 ) -> Result<Option<ReplayFault>, Fail> {
-    let desk = Desk::new(heap, REGION)?;
-    let mut machine = machine(heap, TWO_JOBS)?;
-    begins(rt, &mut machine, desk);
-    refused_replay(rt, heap, &mut machine, growth)
+    let mut machine = machine(heap, TWO_JOBS, REGION)?;
+    let refused = refused_replay(rt, heap, &mut machine, growth);
+    drop(machine);
+    refused
 }
 
 /// Machines over a heap replay, counting upwards until none is refused memory.

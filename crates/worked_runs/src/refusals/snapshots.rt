@@ -5,7 +5,7 @@ use std::alloc::Allocator;
 use vcode_base::Outcome;
 
 /// The state of a job.
-#[derive(Clone, Copy, PartialEq, Eq, Debug)]
+#[derive(Clone, Copy, PartialEq, Eq)]
 pub struct Standing {
     pub status: Option<Status>,
     pub executed: Option<u64>,
@@ -13,7 +13,7 @@ pub struct Standing {
 }
 
 /// The states of both jobs, and the words that they hold.
-#[derive(Clone, Copy, PartialEq, Eq, Debug)]
+#[derive(Clone, Copy, PartialEq, Eq)]
 pub struct Snapshot {
     pub first: Standing,
     pub second: Standing,
@@ -26,6 +26,13 @@ fn standing_of<A: Allocator>(machine: &Machine<A>, job: usize) -> Standing {
         status: machine.status(job),
         executed: machine.executed(job),
         peak: machine.peak(job),
+    }
+}
+
+impl Standing {
+    /// Whether a job has this status, and has executed this number of instructions.
+    pub(crate) fn is(&self, status: Status, executed: u64) -> bool {
+        self.status == Some(status) && self.executed == Some(executed)
     }
 }
 

@@ -1,11 +1,9 @@
 //! The most memory of runs, beside the sum of its parts that docs/OPERATING.md gives. The results of the jobs are one
 //! block many times.
 
-ghost use Rattle.std.specs.Prelude.{◌≤◌};
-ghost use Rattle.job_lanes.specs.declared.lanes.TheConstants.{MOST_LANES};
-
 use crate::refusals::heaps::Heap;
-use batch_front::{Device, FrontFault, NoGate, Options, Status, run, run_alone};
+use crate::refusals::ways::{WORKERS, Way, ending};
+use batch_front::{NoGate, Status};
 use std::alloc::{AllocError, Global};
 use std::io::{Result as IoResult, Write};
 use std::process::Abort;
@@ -28,9 +26,6 @@ const WORDS: usize = 1_000;
 
 /// The bytes of the report.
 const REPORT_BYTES: usize = 2_992_308;
-
-/// How many threads run jobs, beside the calling thread.
-const WORKERS: usize = 2;
 
 /// The sum for a batch of `batch` bytes and this number of desks: the region, its holes, cells and calls, the code
 /// and the check of its kinds, desks, results, and the buffer of the report.
@@ -68,6 +63,19 @@ impl Write for Counter {
     }
 }
 
+/// A job that makes one vector of 1,000 words, copies it 255 times and returns them all: pieces of its text, each as
+/// often as its number.
+const JOB: [(&[u8], usize); 5] = [
+    (b"JOB many 1024 256 1 300\nSIGNATURES\nMAIN () -> (INT", 1),
+    (b" INT", CELLS - 1),
+    (
+        b")\nCODE\nFUNC MAIN\nCONST INT 0\nCONST INT 1\nCONST INT 1000\nMAKE_SEGDES\nINDEX\n",
+        1,
+    ),
+    (b"COPY 1 0\n", CELLS - 1),
+    (b"RET\nEND\n", 1),
+];
+
 /// Puts a text many times.
 fn put_times(batch: &mut Vec<u8>, text: &[u8], times: usize) -> Result<(), AllocError> {
     for _ in 0..times {
@@ -76,89 +84,62 @@ fn put_times(batch: &mut Vec<u8>, text: &[u8], times: usize) -> Result<(), Alloc
     Ok(())
 }
 
-/// Puts a job that makes one vector of 1,000 words, copies it 255 times and returns them all.
-fn put_job(batch: &mut Vec<u8>) -> Result<(), AllocError> {
-    batch.extend_from_slice(b"JOB many 1024 256 1 300\nSIGNATURES\nMAIN () -> (INT")?;
-    put_times(batch, b" INT", CELLS - 1)?;
-    batch.extend_from_slice(b")\nCODE\nFUNC MAIN\nCONST INT 0\nCONST INT 1\nCONST INT 1000\n")?;
-    batch.extend_from_slice(b"MAKE_SEGDES\nINDEX\n")?;
-    put_times(batch, b"COPY 1 0\n", CELLS - 1)?;
-    batch.extend_from_slice(b"RET\nEND\n")
-}
-
-/// The jobs.
-fn batch(alloc: Global) -> Result<Vec<u8>, AllocError> {
-    let mut batch = Vec::new(alloc);
+/// Puts the jobs.
+fn put_jobs(batch: &mut Vec<u8>) -> Result<(), AllocError> {
     for _ in 0..JOBS {
-        put_job(&mut batch)?;
+        for (text, times) in JOB {
+            put_times(batch, text, times)?;
+        }
     }
-    Ok(batch)
+    Ok(())
 }
 
-fn options(lanes: u32) -> Options
-    requires { (1 ≤ lanes) × (lanes ≤ MOST_LANES) }
-{
-    Options {
-        region: REGION as u32,
-        workers: WORKERS as u32,
-        lanes,
-        schedule: None,
-    }
-}
-
-/// The answer of a run, and how many bytes it has written.
-type Ending = (Result<Status, FrontFault>, usize);
-
-/// A run on the calling thread.
-fn alone(heap: &Heap, batch: &[u8]) -> Ending {
-    let mut reader = Device::new(batch);
-    let mut writer = Device::new(Counter { bytes: 0 });
-    let outcome = run_alone(heap, &mut reader, &mut writer, &options(1));
-    (outcome, writer.into_inner().bytes)
-}
-
-/// A run by workers, or on lanes if there is more than one.
-fn by_threads<R>(rt: &R, heap: &Heap, batch: &[u8], lanes: u32) -> Ending
+/// A run of this batch that way has written the whole report, took at most this memory, and keeps none.
+fn keeps_within<R>(rt: &R, alloc: Global, way: Way, batch: &[u8], most: usize)
 where
-    R: Threads + Wait + Sync,
-    requires { (1 ≤ lanes) × (lanes ≤ MOST_LANES) }
+    R: Abort + Threads + Wait + Sync,
 {
-    let mut reader = Device::new(batch);
-    let mut writer = Device::new(Counter { bytes: 0 });
-    let outcome = run(rt, heap, &mut reader, &mut writer, &options(lanes), &NoGate);
-    (outcome, writer.into_inner().bytes)
-}
-
-/// A run has written the whole report, took at most this memory, and keeps none.
-fn keeps_within(rt: &impl Abort, heap: &Heap, ending: Ending, most: usize) {
-    assert_eq!(rt; ending, (Ok(Status::AllReturned), REPORT_BYTES));
+    let heap = RefusingHeap::new(alloc);
+    let counter = Counter { bytes: 0 };
+    let (outcome, counter) = ending(rt, &heap, way, REGION as u32, batch, counter, &NoGate);
+    assert_eq!(rt;
+        (outcome, counter.bytes),
+        (Ok(Status::AllReturned), REPORT_BYTES)
+    );
     assert!(rt; heap.peak_bytes() <= most, "{} {most}", heap.peak_bytes());
     assert_eq!(rt; heap.live_bytes(), 0);
 }
 
-#[test]
-fn a_run_alone_stays_below_the_sum(rt: HostRuntime) -> Result<(), Fail> {
-    let batch = batch(rt.alloc())?;
-    let heap = RefusingHeap::new(rt.alloc());
-    keeps_within(&rt, &heap, alone(&heap, &batch), sum(batch.len(), 1));
+/// Runs of this batch each way keep within the sum of their parts.
+fn all_keep_within<R>(rt: &R, alloc: Global, batch: &[u8])
+where
+    R: Abort + Threads + Wait + Sync,
+{
+    let alone = sum(batch.len(), 1);
+    keeps_within(rt, alloc, Way::Alone, batch, alone);
+    keeps_within(
+        rt,
+        alloc,
+        Way::ByWorkers,
+        batch,
+        sum(batch.len(), WORKERS + 1),
+    );
+    let on_lanes = alone.saturating_add(on_lane().saturating_mul(2));
+    keeps_within(rt, alloc, Way::OnTwoLanes, batch, on_lanes);
+}
+
+/// The same of the jobs, which are put into this batch.
+fn jobs_keep_within<R>(rt: &R, alloc: Global, batch: &mut Vec<u8>) -> Result<(), Fail>
+where
+    R: Abort + Threads + Wait + Sync,
+{
+    put_jobs(batch)?;
+    all_keep_within(rt, alloc, batch.as_slice());
     Ok(())
 }
 
 #[test]
-fn a_run_by_workers_stays_below_the_sum(rt: HostRuntime) -> Result<(), Fail> {
-    let batch = batch(rt.alloc())?;
-    let heap = RefusingHeap::new(rt.alloc());
-    let ending = by_threads(&rt, &heap, &batch, 1);
-    keeps_within(&rt, &heap, ending, sum(batch.len(), WORKERS + 1));
-    Ok(())
-}
-
-#[test]
-fn a_run_on_lanes_stays_below_the_sum(rt: HostRuntime) -> Result<(), Fail> {
-    let batch = batch(rt.alloc())?;
-    let heap = RefusingHeap::new(rt.alloc());
-    let ending = by_threads(&rt, &heap, &batch, 2);
-    let most = sum(batch.len(), 1).saturating_add(on_lane().saturating_mul(2));
-    keeps_within(&rt, &heap, ending, most);
-    Ok(())
+fn runs_stay_below_their_sums(rt: HostRuntime) -> Result<(), Fail> {
+    let mut batch = Vec::new(rt.alloc());
+    jobs_keep_within(&rt, rt.alloc(), &mut batch)
 }

@@ -1,8 +1,8 @@
 //! Runs of a machine by two workers, of which each growth is refused in turn.
 
+use crate::machines::{REGION, machine};
 use crate::refusals::gates::Closed;
-use crate::refusals::heaps::{Heap, MOST_GROWTHS};
-use crate::refusals::machines::{HeapMachine, machine};
+use crate::refusals::heaps::{Heap, HeapMachine, MOST_GROWTHS};
 use crate::refusals::snapshots::both_have_returned;
 use std::process::Abort;
 use std::sync::Wait;
@@ -23,10 +23,14 @@ fn by_workers(tally: &Tally<&Heap>) -> u64 {
     sum
 }
 
-/// Both jobs have returned, and what was executed is counted once.
-fn have_run(rt: &impl Abort, machine: &HeapMachine<'_>, tally: &Tally<&Heap>) {
-    assert!(rt; both_have_returned(machine));
-    assert_eq!(rt; by_workers(tally).wrapping_add(tally.caller), EXECUTED);
+/// Both jobs have returned, and what was executed is counted once. What the calling thread executed.
+fn caller_of(rt: &impl Abort, machine: HeapMachine<'_>, tally: Tally<&Heap>) -> u64 {
+    assert!(rt; both_have_returned(&machine));
+    drop(machine);
+    let caller = tally.caller;
+    assert_eq!(rt; by_workers(&tally).wrapping_add(caller), EXECUTED);
+    drop(tally);
+    caller
 }
 
 /// How many instructions the calling thread executes beside two workers that run the two jobs, or None if the run
@@ -35,13 +39,10 @@ fn by_caller<R>(rt: &R, heap: &Heap, growth: u64) -> Result<Option<u64>, Fail>
 where
     R: Abort + Threads + Wait + Sync,
 {
-    let machine = machine(heap, TWO_JOBS)?;
+    let machine = machine(heap, TWO_JOBS, REGION)?;
     heap.refuse(growth);
     match run_workers(rt, heap, machine, 2, &Closed) {
-        Ok((machine, tally)) => {
-            have_run(rt, &machine, &tally);
-            Ok(Some(tally.caller))
-        }
+        Ok((machine, tally)) => Ok(Some(caller_of(rt, machine, tally))),
         Err(fault) => {
             assert_eq!(rt; (fault, heap.has_refused()), (RunFault::Memory, true));
             Ok(None)
