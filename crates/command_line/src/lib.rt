@@ -7,8 +7,6 @@
 mod command;
 mod fault;
 mod line;
-#[cfg(test)]
-mod tests;
 
 pub use command::Vjobs;
 pub use fault::LineFault;
