@@ -96,8 +96,8 @@ impl<A: Allocator + Clone> Machine<A> {
 impl<A: Allocator> Machine<A> {
     /// Does a begin of a job and then a finish, each of which is passed over if it isn't open.
     ///
-    /// If a step of the job has begun already, it is finished. Takes no memory. The workbench has to fit the machine, and
-    /// still does afterwards.
+    /// If a step of the job has begun already, it is finished. Takes no memory. The workbench has to fit the machine,
+    /// and still does afterwards.
     pub fn play_step(&mut self, job: usize, workbench: &mut Workbench<A>)
         requires { WorkbenchFits self.old workbench.old }
         ensures state { self.new ≡ after_step job self.old }

@@ -10,5 +10,6 @@ returns-in-Began-clause-continues g c =
     continues_on _ _ _
     (continues_after c.count_laws.ensures.others (Begin c.args.job) refl c.args.machine.now c.begin.new.self
     (record { verified = jobs.verified; kept = jobs.kept }) c.in-Began.ensures.state)
-    (continues_finished c.count_laws.ensures.finishes c.compute.result.job c.begin.new.self c.finish_own-finished.new.self
-    (record { verified = then.verified; kept = then.kept }) c.finish_own-finished.result.0 c.finish_own-finished.ensures.state)
+    (continues_finished c.count_laws.ensures.finishes c.compute.result.job c.begin.new.self
+    c.finish_own-finished.new.self (record { verified = then.verified; kept = then.kept })
+    c.finish_own-finished.result.0 c.finish_own-finished.ensures.state)
