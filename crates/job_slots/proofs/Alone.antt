@@ -2,7 +2,7 @@
 use Rattle.std.proofs.Common.{◌≡◌, ℕ, ◌≤◌, List, length, Option, Some, None, refl, sym, ◌∙◌, ap, arith}
 use Rattle.std.proofs.lemmas.List.{length-map}
 use Rattle.vcode_base.specs.declared.outcome.Outcome.{Outcome}
-use Rattle.vcode_base.specs.declared.outcome.Outcome.TheVariants.{Returned, Fault, Memory, Budget}
+use Rattle.vcode_base.specs.declared.outcome.Outcome.TheVariants.{Returned}
 use Rattle.refcounts.specs.SharedState.{Slot, words_in, blocks_in}
 use Rattle.signatures.specs.Signatures.{Signature}
 use Rattle.job_steps.specs.EventLaws.{StandsOnRun}
@@ -34,9 +34,8 @@ pub record Holds (slots : List Slot) (stack : List StackEntry) : Type 0 where
   pub words : words_in slots ≡ held_words stack
   pub few : blocks_in slots ≤ length stack
 
-pub holds_stack : (slots : List Slot) (ids : List ℕ) (stack : List StackEntry) → AreTidy slots
-    → HoldStack slots ids stack →
-    Holds slots stack
+pub holds_stack : (slots : List Slot) (ids : List ℕ) (stack : List StackEntry) → AreTidy slots →
+    HoldStack slots ids stack → Holds slots stack
 holds_stack slots ids stack tidy h = record {
   words = held_is_stack slots h.cells h.held tidy ∙ ap held_words (sym h.entries_are);
   few =
@@ -60,19 +59,11 @@ runs_alone : Reaches → (signatures : List Signature) (slots : List Slot) (task
 runs_alone reached signatures slots task t verified tidy run =
     let is = reached signatures task verified t.executed run.state run.running in
     let holds = holds_stack slots t.cells run.state.stack tidy run.holds in
-    record {
-      budget = is.budget;
-      peak_is = run.at.peak ∙ sym (ap peak_in run.running);
-      held = holds.words ∙ sym (ap held_in run.running);
-      few = omega (arith, holds.few, is.cells);
-    }
+    grind arith
 
 -- a job that ends otherwise than by return leaves nothing
 none_left : (task : Task) (ending : Outcome (List Vector)) → (IsReturned ending → ⊥) → left_words task ending ≡ 0
-none_left task (Returned values) no_return = absurd (no_return tt)
-none_left task (Fault fault line) no_return = refl
-none_left task (Memory fault line) no_return = refl
-none_left task Budget no_return = refl
+none_left task ending no_return = grind arith
 
 alone_left : Reaches → EachEnds → (signatures : List Signature) (slots : List Slot) (task : Task) (t : TrackState ℕ) →
     IsVerifiedTask signatures task → AreTidy slots → (o : Option (Outcome (List Vector))) → Leaves slots task t o →
@@ -81,22 +72,13 @@ alone_left reached ends signatures slots task t verified tidy None left =
     let holds = holds_stack slots t.cells left.stack tidy left.holds in
     let few = few_results reached ends signatures task verified left.stack left.outcome_is in
     (holds.words ∙ sym left.left, omega (arith, holds.few, few))
-alone_left reached ends signatures slots task t verified tidy (Some ending) (is, no_return, nothing) = (
-  words_of_none slots nothing.no_block ∙ sym (ap (left_words task) is ∙ none_left task ending no_return),
-  omega (arith, blocks_of_none slots nothing.no_block),
-)
+alone_left reached ends signatures slots task t verified tidy (Some ending) (is, no_return, nothing) =
+    grind (arith, words_of_none, none_left, blocks_of_none)
 
 pub alone : Reaches → EachEnds → (signatures : List Signature) (slots : List Slot) (task : Task) (t : TrackState ℕ) →
     IsVerifiedTask signatures task → AreTidy slots → (o : Option (Outcome (List Vector))) (s : Status) →
     ShowsAs slots task t o s → IsAlone slots task t o s
-alone reached ends signatures slots task t verified tidy o Waiting shown = record {
-  stands = tt;
-  executed = shown.first.executed;
-  peak_is = shown.first.peak;
-  held = words_of_none slots shown.nothing.no_block;
-  outcome_is = refl;
-  few = omega (arith, blocks_of_none slots shown.nothing.no_block);
-}
+alone reached ends signatures slots task t verified tidy o Waiting shown = grind (arith, words_of_none, blocks_of_none)
 alone reached ends signatures slots task t verified tidy o Live shown =
     let run = runs_alone reached signatures slots task t verified tidy shown in
     record {
@@ -130,11 +112,5 @@ alone reached ends signatures slots task t verified tidy o Ended shown =
       outcome_is = refl;
       few = left.1;
     }
-alone reached ends signatures slots task t verified tidy o Collected shown = record {
-  stands = ends signatures task verified;
-  executed = shown.executed;
-  peak_is = shown.peak_is;
-  held = words_of_none slots shown.nothing.no_block;
-  outcome_is = shown.stored;
-  few = omega (arith, blocks_of_none slots shown.nothing.no_block);
-}
+alone reached ends signatures slots task t verified tidy o Collected shown =
+    grind (arith, words_of_none, blocks_of_none)

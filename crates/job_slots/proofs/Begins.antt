@@ -46,25 +46,21 @@ early_end_when task n s runs = ap (early_end_of task) runs
 
 -- a job that runs can begin its next step
 pub can_begin : StepsCanBegin ℕ → (slots : List Slot) (task : Task) (t : TrackState ℕ)
-    (run : IsRunningSlot slots task t) →
-    IsVerified task → CanBegin task t.executed run.state t
+    (run : IsRunningSlot slots task t) → IsVerified task → CanBegin task t.executed run.state t
 can_begin law slots task t run verified = law verified.0 task verified.1 t.executed run.state t run.running run.at
 
 -- a line that is read in the task's program
 pub line_of : (task : Task) (t : TrackState ℕ) (program : Program) (verified : TypedProgram) (line : CodeLine) →
-    program ≡ verified.program → verified ≡ task.verified →
-    ((call : Active) (outer : List Active) → StandAll program.functions t.frames (call ∷ outer) →
-    next_item call ≡ instruction_of line) → IsLineOf task t line
-line_of task t program verified line same of_task read call outer stands =
-    read call outer (rw (same, of_task) stands)
+    program ≡ verified.program → verified ≡ task.verified → ((call : Active) (outer : List Active) →
+    StandAll program.functions t.frames (call ∷ outer) → next_item call ≡ instruction_of line) → IsLineOf task t line
+line_of task t program verified line same of_task read call outer stands = read call outer (rw (same, of_task) stands)
 
 -- the operands that the line takes are there
 pub deep_line : (task : Task) (t : TrackState ℕ) (s : State) (line : CodeLine) → CanBegin task t.executed s t →
     IsLineOf task t line → operand_count (op_of (instruction_in line.item)) ≤ length t.cells
 deep_line task t s line can is_line =
     let next : next_item can.call ≡ instruction_of line = is_line can.call can.outer can.stands in
-    subst (λ (x : Numbered Item). operand_count (op_of x.item) ≤ length t.cells) next
-    (deep_enough (op_of (next_item can.call).item) (length t.cells) can.deep)
+    subst (λ (x : Numbered Item). operand_count (op_of x.item) ≤ length t.cells) next (deep_enough _ _ can.deep)
 
 -- the instruction that is the next is that of the line of the next one
 pub op_of_line : (task : Task) (t : TrackState ℕ) (s : State) (line : CodeLine) (op : Op) →

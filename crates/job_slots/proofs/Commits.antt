@@ -1,6 +1,6 @@
 -- What an instruction that is executed does to a job's cells and blocks.
-use Rattle.std.proofs.Common.{◌≡◌, ℕ, ◌+◌, ◌<◌, ◌≤◌, List, [], ◌∷◌, ◌++◌, length, take, drop, refl, sym}
-use Rattle.std.proofs.Common.{◌∙◌, ap, subst, arith}
+use Rattle.std.proofs.Common.{◌≡◌, ℕ, ◌+◌, ◌<◌, ◌≤◌, List, [], ◌∷◌, ◌++◌, length, take, drop, refl, sym, ◌∙◌, ap, subst}
+use Rattle.std.proofs.Common.{arith}
 use Rattle.std.specs.Prelude.{All, reverse}
 use Rattle.std.proofs.lemmas.List.{append_assoc}
 use Rattle.std.proofs.lemmas.List.Elements.{All-nil, All-cons, All-head, All-tail, All-weaker, All-append, All-drop}
@@ -67,20 +67,14 @@ first_tag [] = 0
 first_tag (e ∷ es) = e.tag
 
 reverse_onto : (c : Cell) (news cells : List Cell) → reverse (c ∷ news) ++ cells ≡ reverse news ++ (c ∷ cells)
-reverse_onto c news cells =
-    ap (λ l. l ++ cells) (reverse-cons c news) ∙ append_assoc (reverse news) (c ∷ []) cells
+reverse_onto c news cells = grind (arith, reverse-cons, append_assoc)
 
 placed_all : BlockLaws → (job : ℕ) (news : List Cell) (values : List Vector) (next : ℕ) (old placed : JobBlocks)
     (cells : List Cell) → AreHeld (own_slots job old) cells → All (λ (c : Cell). c.entry.tag < next) cells →
     entries_of news ≡ new_entries next values → ArePlaced job news old placed →
     IsPlaced job old placed (reverse news ++ cells)
-placed_all laws job [] values next old placed cells held older e are = record {
-  held = subst (λ (b : JobBlocks). AreHeld (own_slots job b) cells) (sym are) held;
-  others = subst (λ (b : JobBlocks). ChangesOnlyOf job old b) (sym are) ((laws.changes_join job).none old);
-}
-placed_all laws job (c ∷ news) [] next old placed cells held older e are =
-    absurd (let none : length (entries_of (c ∷ news)) ≡ 0 = ap (λ (es : List StackEntry). length es) e in
-    omega (arith, none))
+placed_all laws job [] values next old placed cells held older e are = grind arith
+placed_all laws job (c ∷ news) [] next old placed cells held older e are = grind arith
 placed_all laws job (c ∷ news) (v ∷ vs) next old placed cells held older e are =
     let tag : c.entry.tag ≡ next = ap first_tag e in
     let rest : entries_of news ≡ new_entries (next + 1) vs = ap (λ (es : List StackEntry). drop 1 es) e in
@@ -94,8 +88,7 @@ placed_all laws job (c ∷ news) (v ∷ vs) next old placed cells held older e a
     (All-weaker (IsOlder next) (IsOlder (next + 1)) (λ x o. omega (arith, o)) cells older) in
     let after = placed_all laws job news vs (next + 1) between placed (c ∷ cells) one later rest are.2 in
     record {
-      held = subst (λ (whole : List Cell). AreHeld (own_slots job placed) whole) (sym (reverse_onto c news cells))
-          after.held;
+      held = rw (reverse_onto c news cells) after.held;
       others = (laws.changes_join job).both old between placed
           (laws.blocks_change_only_their_job old job c.id c.entry.value.words are.0 are.1) after.others;
     }
@@ -133,10 +126,7 @@ module _ (laws : BlockLaws) (job : ℕ) (old placed : JobBlocks) where
   -- `taken` cells are taken off the stack, and the new ones lie on the others
   pushed : (n : ℕ) (cells news : List Cell) → IsPlaced job old placed (reverse news ++ cells) →
       IsReleased job old placed (top_entries n (ids_of cells)) (reverse news ++ drop n cells)
-  pushed n cells news is =
-      subst (λ (ids : List ℕ). IsReleased job old placed ids (reverse news ++ drop n cells))
-      (map-top (λ (c : Cell). c.id) n cells)
-      (released (reverse news ++ drop n cells) (top_entries n cells) (reverse news ++ cells) among split is)
+  pushed n cells news is = rw (← map-top _ n _) (released _ _ _ among split is)
     where
       left : (P : Cell → Type 0) (xs ys : List Cell) → All P (xs ++ ys) → All P xs
       left P [] ys all = All-nil P
@@ -219,14 +209,11 @@ module _ (laws : BlockLaws) (job : ℕ) (old placed : JobBlocks) where
     few id = omega (arith, parts id)
 
     low_among : Among low cells
-    low_among P all =
-        All-reverse P (take lower (drop upper cells))
-        (All-take P lower (drop upper cells) (All-drop P upper cells all))
+    low_among P all = All-reverse P _ (All-take P lower (drop upper cells) (All-drop P upper cells all))
 
     popped : IsReleased job old placed (moved_ids lower upper (ids_of cells)) (stack_after_move Pop lower upper cells)
     popped =
-        subst (λ (ids : List ℕ). IsReleased job old placed ids (stack_after_move Pop lower upper cells))
-        (map-lower (λ (c : Cell). c.id) lower upper cells)
+        rw (← map-lower (λ (c : Cell). c.id) lower upper cells)
         (released (stack_after_move Pop lower upper cells) low cells (moved Pop) after_pop is)
 
     turned : IsReleased job old placed [] (stack_after_move MoveToTop lower upper cells)
@@ -245,9 +232,7 @@ module _ (laws : BlockLaws) (job : ℕ) (old placed : JobBlocks) where
         }
 
     copied : IsShared job old placed (moved_ids lower upper (ids_of cells)) (stack_after_move Copy lower upper cells)
-    copied =
-        subst (λ (ids : List ℕ). IsShared job old placed ids (stack_after_move Copy lower upper cells))
-        (map-lower (λ (c : Cell). c.id) lower upper cells) copied_by
+    copied = grind (arith, map-lower, copied_by)
 
 -- ---- without results
 
@@ -273,9 +258,7 @@ module _ (laws : BlockLaws) (job : ℕ) (old : JobBlocks) (cells : List Cell) (h
 
     pub can_commit : (op : Op) → CanCommit job op old cells
     can_commit (Move motion lower upper) = by_motion motion lower upper
-    can_commit (Const k) =
-        let is = without_top (operand_count (Const k)) in
-        record { can_take = is.own; held = is.held; others = is.others }
+    can_commit (Const k) = grind (arith, without_top)
     can_commit (Elementwise e) =
         let is = without_top (operand_count (Elementwise e)) in
         record { can_take = is.own; held = is.held; others = is.others }
@@ -285,12 +268,8 @@ module _ (laws : BlockLaws) (job : ℕ) (old : JobBlocks) (cells : List Cell) (h
     can_commit If =
         let is = without_top (operand_count If) in
         record { can_take = is.own; held = is.held; others = is.others }
-    can_commit Call =
-        let is = without_top (operand_count Call) in
-        record { can_take = is.own; held = is.held; others = is.others }
-    can_commit Return =
-        let is = without_top (operand_count Return) in
-        record { can_take = is.own; held = is.held; others = is.others }
+    can_commit Call = grind (arith, without_top)
+    can_commit Return = grind (arith, without_top)
 
 -- ---- with results
 
@@ -306,14 +285,12 @@ exchanged_one laws First job n old between cells c held older is =
       others = laws.blocks_change_only_their_job old job c.id c.entry.value.words is.within is.free;
     } in
     let r = pushed laws job old placed n cells (c ∷ []) one in
-    subst (λ (b : JobBlocks). IsPlaced job old b (c ∷ drop n cells)) (sym is.exchanged)
-    (record { held = r.held; others = r.others })
+    rw is.exchanged (record { held = r.held; others = r.others })
 exchanged_one laws Second job n old between cells c held older is =
     let r = without_top laws job old cells held n in
     let fewer : JobBlocks = with_releases (top_entries n (ids_of cells)) old in
     let within : c.id < length fewer.memory.slots = omega (arith, is.within, r.others.memory.ids) in
-    subst (λ (b : JobBlocks). IsPlaced job old b (c ∷ drop n cells)) (sym is.exchanged)
-    (record {
+    rw is.exchanged (record {
       held = placed_one job fewer.memory c (drop n cells) within is.free r.held
           (All-drop (IsOlder c.entry.tag) n cells older);
       others = (laws.changes_join job).both old fewer _ r.others
@@ -323,13 +300,7 @@ exchanged_one laws Second job n old between cells c held older is =
 -- an instruction with results pushes them
 pushes : (op : Op) (news cells : List Cell) → 0 < length (result_kinds op) →
     reverse news ++ drop (operand_count op) cells ≡ stack_after op news cells
-pushes (Move motion lower upper) news cells some = absurd (omega (arith, some))
-pushes (Const k) news cells some = refl
-pushes (Elementwise e) news cells some = refl
-pushes (Segmented e) news cells some = refl
-pushes If news cells some = refl
-pushes Call news cells some = refl
-pushes Return news cells some = refl
+pushes op news cells some = grind arith
 
 -- the blocks after an instruction hold what it leaves
 placed_by : BlockLaws → (rule : Rule) (job : ℕ) (op : Op) (old new : JobBlocks) (cells news : List Cell) (next : ℕ)
@@ -338,11 +309,8 @@ placed_by : BlockLaws → (rule : Rule) (job : ℕ) (op : Op) (old new : JobBloc
     AreCommitted rule job op (ids_of cells) news old new → IsPlaced job old new (stack_after op news cells)
 placed_by laws rule job op old new cells [] next values held older entries count are =
     let can = can_commit laws job old cells held op in
-    subst (λ (b : JobBlocks). IsPlaced job old b (stack_after op [] cells)) (sym are)
-    (record { held = can.held; others = can.others })
-placed_by laws rule job op old new cells (c ∷ news) next [] held older entries count are =
-    absurd (let none : length (entries_of (c ∷ news)) ≡ 0 = ap (λ (es : List StackEntry). length es) entries in
-    omega (arith, none))
+    rw are (record { held = can.held; others = can.others })
+placed_by laws rule job op old new cells (c ∷ news) next [] held older entries count are = grind arith
 placed_by laws rule job op old new cells (c ∷ news) next (v ∷ vs) held older entries count are =
     let n = operand_count op in
     let kept : List Cell = c ∷ drop n cells in
@@ -367,10 +335,5 @@ pub committed : BlockLaws → (rule : Rule) (job : ℕ) (op : Op) (old new : Job
     entries_of news ≡ new_entries next values → length news ≡ length (result_kinds op) →
     AreCommitted rule job op (ids_of cells) news old new → IsCommitted job op old new cells news
 committed laws rule job op old new cells news next values held older entries count are =
-    let is = placed_by laws rule job op old new cells news next values held older entries count are in
-    record {
-      held = is.held;
-      ids = map-stack_after (λ (c : Cell). c.id) op news cells;
-      entries = map-stack_after (λ (c : Cell). c.entry) op news cells;
-      others = is.others;
-    }
+    let is = placed_by laws _ _ op _ _ _ _ _ _ held older entries count are in
+    record { held = is.held; ids = map-stack_after _ op _ _; entries = map-stack_after _ op _ _; others = is.others }

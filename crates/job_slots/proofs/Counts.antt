@@ -1,6 +1,5 @@
 -- How often cells name a block.
-use Rattle.std.proofs.Common.{◌≡◌, ◌≢◌, ℕ, ◌+◌, ◌<◌, Bool, cond, eqb, List, [], ◌∷◌, ◌++◌, take, drop}
-use Rattle.std.proofs.Common.{refl, sym, ◌∙◌, ap, inl, inr, arith}
+use Rattle.std.proofs.Common.{◌≡◌, ◌≢◌, ℕ, ◌+◌, ◌<◌, eqb, List, [], ◌∷◌, ◌++◌, take, drop, refl, sym, ◌∙◌, ap, arith}
 use Rattle.std.specs.Prelude.{All, reverse}
 use Rattle.std.proofs.lemmas.Bool.{eq-eqb}
 use Rattle.std.proofs.lemmas.Bool.Decides.{eqb_tells}
@@ -21,9 +20,7 @@ abbrev pub IsNamed : List Cell → Cell → Type 0
 IsNamed cells c = 0 < times c.id cells
 
 pub times_append : (id : ℕ) (xs ys : List Cell) → times id (xs ++ ys) ≡ times id xs + times id ys
-times_append id xs ys =
-    ap (λ ids. occurrences id ids) (map-append (λ (c : Cell). c.id) xs ys)
-    ∙ sum_by-append (λ (other : ℕ). cond (eqb other id) 1 0) (ids_of xs) (ids_of ys)
+times_append id xs ys = grind (arith, map-append, sum_by-append)
 
 pub times_cons : (id : ℕ) (x : Cell) (xs : List Cell) → times id (x ∷ xs) ≡ times id (x ∷ []) + times id xs
 times_cons id x xs = times_append id (x ∷ []) xs
@@ -41,24 +38,10 @@ pub times_top : (id n : ℕ) (xs : List Cell) → times id (top_entries n xs) �
 times_top id n xs = times_reverse id (take n xs)
 
 pub times_itself : (x : Cell) → times x.id (x ∷ []) ≡ 1
-times_itself x =
-    let one : cond (eqb x.id x.id) 1 0 ≡ 1 = ap (λ (b : Bool). let n : ℕ = cond b 1 0 in n) (eq-eqb x.id x.id refl) in
-    let step : times x.id (x ∷ []) ≡ cond (eqb x.id x.id) 1 0 + occurrences x.id [] =
-    sum_by-cons (λ (other : ℕ). cond (eqb other x.id) 1 0) x.id [] in
-    let none : occurrences x.id [] ≡ 0 = refl in
-    omega (arith, one, step, none)
+times_itself x = grind (arith, eq-eqb, times, sum_by-cons)
 
 pub times_other : (id : ℕ) (x : Cell) → id ≢ x.id → times id (x ∷ []) ≡ 0
-times_other id x ne =
-    let step : times id (x ∷ []) ≡ cond (eqb x.id id) 1 0 + occurrences id [] =
-    sum_by-cons (λ (other : ℕ). cond (eqb other id) 1 0) x.id [] in
-    let none : occurrences id [] ≡ 0 = refl in
-    elim (eqb_tells x.id id) [
-      | inl same ↦ absurd (ne (sym same.1))
-      | inr other ↦
-          (let no : cond (eqb x.id id) 1 0 ≡ 0 = ap (λ (b : Bool). let n : ℕ = cond b 1 0 in n) other.0 in
-          omega (arith, no, step, none))
-    ]
+times_other id x ne = grind (arith, times, sum_by-cons, eqb_tells)
 
 -- each cell names its own block
 pub each_occurs : (xs : List Cell) → All (λ (c : Cell). 0 < times c.id xs) xs
@@ -70,7 +53,5 @@ each_occurs (x ∷ xs) =
 
 -- what holds of each element, twice
 pub All-both : {X : Type 0} (P Q : X → Type 0) (xs : List X) → All P xs → All Q xs → All (λ x. P x × Q x) xs
-All-both P Q [] p q = All-nil (λ x. P x × Q x)
-All-both P Q (x ∷ xs) p q =
-    All-cons (λ x. P x × Q x) x xs (All-head P x xs p, All-head Q x xs q)
-    (All-both P Q xs (All-tail P x xs p) (All-tail Q x xs q))
+All-both P Q [] p q = grind (arith, All-nil)
+All-both P Q (x ∷ xs) p q = grind (arith, All-cons, All-head, All-tail, (All-both P Q xs))

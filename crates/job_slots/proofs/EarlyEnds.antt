@@ -1,8 +1,7 @@
 -- What ends a job that runs before its next instruction.
-use Rattle.std.proofs.Common.{◌≡◌, ℕ, ℤ, ◌+◌, ◌≤◌, Bool, true, false, cond, eqb, ltb, min, max, List, [], ◌∷◌, length}
-use Rattle.std.proofs.Common.{Option, Some, None}
-use Rattle.std.proofs.Common.{refl, sym, ◌∙◌, ap, subst, arith}
-use Rattle.std.specs.Prelude.{◌&&◌, MatchOption}
+use Rattle.std.proofs.Common.{◌≡◌, ℕ, ℤ, ◌+◌, ◌≤◌, Bool, false, cond, eqb, ltb, min, List, [], ◌∷◌, length, Option}
+use Rattle.std.proofs.Common.{Some, None, sym, ◌∙◌, ap, subst, arith}
+use Rattle.std.specs.Prelude.{MatchOption}
 use Rattle.std.proofs.lemmas.Bool.{eq-eqb}
 use Rattle.std.proofs.lemmas.Bool.Decides.{nat_tests}
 use Rattle.std.proofs.lemmas.Option.{none-some}
@@ -15,7 +14,7 @@ use Rattle.vcode_base.specs.declared.outcome.Outcome.TheVariants.{Budget, Memory
 use Rattle.vcode_base.specs.Instructions.{op_of}
 use Rattle.vcode_base.specs.Kinds.{HaveKinds, source_kinds}
 use Rattle.vcode_base.specs.Laws.{ResultsHaveNeededLengths}
-use Rattle.vcode_base.specs.Meaning.{shape, need, result_of, second_result_of}
+use Rattle.vcode_base.specs.Meaning.{shape, need}
 use Rattle.vcode_reader.specs.Trees.{Function}
 use Rattle.refcounts.specs.SharedState.{Slot, IsTidy}
 use Rattle.job_memory.specs.JobBlocks.{JobBlocks, AreOwn, own_slots}
@@ -28,8 +27,7 @@ use Rattle.job_steps.specs.Motions.{depth_after, operand_count}
 use Rattle.job_steps.specs.Questions.{Question, need_words}
 use Rattle.job_steps.specs.Runs.{state_after}
 use Rattle.job_steps.specs.States.{Task, Active, State}
-use Rattle.job_steps.specs.Steps.{Ending, Running, next_item, question_of, ending_by, memory_fault}
-use Rattle.job_steps.specs.Steps.{flag_of, held_at, is_call}
+use Rattle.job_steps.specs.Steps.{Ending, Running, next_item, question_of, ending_by, memory_fault, flag_of, held_at}
 use Rattle.job_steps.specs.StepLaws.{CanBegin, StepsCanBegin, StepsCanAdvance}
 use Rattle.job_steps.specs.Tickets.{AreResults, CanAnswer, question_by}
 use Rattle.job_steps.specs.Tracks.{TrackState, IsAt, functions_of}
@@ -50,35 +48,20 @@ pub same_by : (limits : Limits) (op : Op) (many few : ℕ) (depth calls : ℕ) �
     ltb limits.words many ≡ ltb limits.words few →
     memory_fault limits op many depth calls ≡ memory_fault limits op few depth calls
 unfolding memory_fault
-same_by limits op many few depth calls same =
-    ap (λ (b : Bool). cond b (Some memory.Words)
-    (cond (ltb limits.cells depth) (Some memory.Cells)
-    (cond (is_call op && ltb limits.calls (calls + 1)) (Some memory.Calls) None))) same
+same_by limits op many few depth calls same = grind arith
 
 same_test : (limit a b c most : ℕ) → limit + 1 ≤ most →
     ltb limit (min (min (a + b) most + c) most) ≡ ltb limit (a + (b + c))
 same_test limit a b c most within = grind (arith, nat_tests)
 
-pub capped_words : (limits : Limits) (op : Op) (held first second most depth calls : ℕ) → limits.words + 1 ≤ most →
-    memory_fault limits op (min (min (held + first) most + second) most) depth calls
-    ≡ memory_fault limits op (held + (first + second)) depth calls
-capped_words limits op held first second most depth calls within =
-    same_by limits op (min (min (held + first) most + second) most) (held + (first + second)) depth calls
-    (same_test limits.words held first second most within)
-
 -- the limit that an instruction would pass, counting words up to the greatest number
 pub limit_fault : (limits : Limits) (op : Op) (sources : List (List ℤ)) (held depth calls sum words most : ℕ)
     (lengths : ℕ × ℕ) → lengths ≡ need op sources → sum ≡ min (held + lengths.0) most →
     words ≡ min (sum + lengths.1) most → limits.words + 1 ≤ most →
-    memory_fault limits op words depth calls
-    ≡ memory_fault limits op (held + need_words (question_by op sources)) depth calls
+    memory_fault limits op words depth calls ≡ memory_fault limits op (held + need_words (question_by op sources)) depth
+    calls
 limit_fault limits op sources held depth calls sum words most lengths are first second within =
-    let counted : words ≡ min (min (held + (need op sources).0) most + (need op sources).1) most =
-    second
-    ∙ (ap (λ (n : ℕ). min (n + lengths.1) most) first
-    ∙ ap (λ (p : ℕ × ℕ). min (min (held + p.0) most + p.1) most) are) in
-    ap (λ (n : ℕ). memory_fault limits op n depth calls) counted
-    ∙ capped_words limits op held (need op sources).0 (need op sources).1 most depth calls within
+    grind (arith, same_by, same_test)
 
 -- the words that are counted, which pass no limit, are those that are held and needed
 pub all_counted : (limit held first second most sum words : ℕ) → sum ≡ min (held + first) most →
@@ -87,23 +70,19 @@ all_counted limit held first second most sum words sum_is words_is within few = 
 
 pub ends_by_memory : (line : ℕ) (shaped : Option DataFault) (refusal : Option MemoryFault) (fault : MemoryFault) →
     shaped ≡ None → refusal ≡ Some fault → ending_by line shaped refusal ≡ Some (Memory fault line)
-ends_by_memory line shaped refusal fault fits is =
-    ap (λ (o : Option DataFault). ending_by line o refusal) fits ∙ ap (ending_by line None) is
+ends_by_memory line shaped refusal fault fits is = grind arith
 
 pub ends_by_nothing : (line : ℕ) (shaped : Option DataFault) (refusal : Option MemoryFault) → shaped ≡ None →
     refusal ≡ None → ending_by line shaped refusal ≡ None
-ends_by_nothing line shaped refusal fits is =
-    ap (λ (o : Option DataFault). ending_by line o refusal) fits ∙ ap (ending_by line None) is
+ends_by_nothing line shaped refusal fits is = grind arith
 
 -- ---- the end before an instruction, as the track and the blocks tell it
 
 -- frames at calls are as many as the calls
 as_many : (functions : List Function) (frames : List Frame) (calls : List Active) → StandAll functions frames calls →
     length frames ≡ length calls
-as_many functions [] [] stand = refl
-as_many functions [] (call ∷ calls) stand = absurd stand
-as_many functions (frame ∷ frames) [] stand = absurd stand
-as_many functions (frame ∷ frames) (call ∷ calls) stand = omega (arith, as_many functions frames calls stand.1)
+as_many functions [] calls stand = grind arith
+as_many functions (frame ∷ frames) calls stand = grind (arith, (as_many functions frames))
 
 -- the ending by a question of a line, at these counts
 abbrev ending_at : ℕ → Question → Limits → ℕ → ℕ → ℕ → Option Ending
@@ -113,73 +92,64 @@ ending_at line q limits held depth calls =
 
 same_ending : (line line' : ℕ) (q q' : Question) (l l' : Limits) (h h' d d' c c' : ℕ) → line ≡ line' → q ≡ q' → l ≡ l' →
     h ≡ h' → d ≡ d' → c ≡ c' → ending_at line q l h d c ≡ ending_at line' q' l' h' d' c'
-same_ending line line' q q' l l' h h' d d' c c' e1 e2 e3 e4 e5 e6 =
-    ap (λ (x : ℕ). ending_at x q l h d c) e1
-    ∙ (ap (λ (x : Question). ending_at line' x l h d c) e2
-    ∙ (ap (λ (x : Limits). ending_at line' q' x h d c) e3
-    ∙ (ap (λ (x : ℕ). ending_at line' q' l' x d c) e4
-    ∙ (ap (λ (x : ℕ). ending_at line' q' l' h' x c) e5 ∙ ap (λ (x : ℕ). ending_at line' q' l' h' d' x) e6))))
-
-some_is : {A : Type 0} (x y : A) → Some x ≡ Some y → x ≡ y
-some_is x y e = cc
+same_ending line line' q q' l l' h h' d d' c c' e1 e2 e3 e4 e5 e6 = grind (arith, ending_at)
 
 -- what is read is the next instruction's
 pub same_question : (task : Task) (t : TrackState ℕ) (s : State) (op : Op) (line : ℕ) (sources : List (List ℤ)) →
     state_after task t.executed ≡ Running s → (can : CanBegin task t.executed s t) →
-    IsNext task t.executed op line sources →
-    question_of (next_item can.call).item s.stack ≡ question_by op sources
-same_question task t s op line sources runs can next =
-    some_is _ _ (sym (question_when task t.executed s can.call can.outer runs can.calls) ∙ next.question)
+    IsNext task t.executed op line sources → question_of (next_item can.call).item s.stack ≡ question_by op sources
+same_question task t s op line sources runs can next = grind (arith, question_when)
 
 same_line : (task : Task) (t : TrackState ℕ) (s : State) (op : Op) (line : ℕ) (sources : List (List ℤ)) →
     state_after task t.executed ≡ Running s → (can : CanBegin task t.executed s t) →
-    IsNext task t.executed op line sources →
-    (next_item can.call).number ≡ line
-same_line task t s op line sources runs can next =
-    some_is _ _ (sym (line_when task t.executed s can.call can.outer runs can.calls) ∙ next.line_is)
+    IsNext task t.executed op line sources → (next_item can.call).number ≡ line
+same_line task t s op line sources runs can next = grind (arith, line_when)
 
 pub budget_end : (task : Task) (t : TrackState ℕ) (s : State) → state_after task t.executed ≡ Running s →
-    IsAt task t s →
-    t.executed ≡ t.limits.budget → early_end_at task t.executed ≡ Some Budget
+    IsAt task t s → t.executed ≡ t.limits.budget → early_end_at task t.executed ≡ Some Budget
 budget_end task t s runs at spent =
     let same : s.executed ≡ task.limits.budget = sym at.executed ∙ (spent ∙ ap (λ (l : Limits). l.budget) at.limits) in
-    early_end_when task t.executed s runs
-    ∙ ap (λ (b : Bool). cond b (Some Budget) (early_end_in task s s.calls)) (eq-eqb _ _ same)
+    early_end_when _ _ s runs ∙ ap (λ (b : Bool). cond b (Some Budget) (early_end_in task s s.calls)) (eq-eqb _ _ same)
 
-pub early_end_is : (task : Task) (t : TrackState ℕ) (s : State) (op : Op) (line : ℕ) (sources : List (List ℤ))
-    (held : ℕ) →
-    state_after task t.executed ≡ Running s → IsAt task t s → (can : CanBegin task t.executed s t) →
+pub early_end_is : (task : Task) (t : TrackState ℕ) (s : State) (op : Op) (line : ℕ) (sources : List (List ℤ)) (held :
+    ℕ) → state_after task t.executed ≡ Running s → IsAt task t s → (can : CanBegin task t.executed s t) →
     IsNext task t.executed op line sources → held ≡ held_at task.rule (next_item can.call).item s →
-    (t.executed ≡ t.limits.budget → ⊥) →
-    early_end_at task t.executed ≡ ending_by line (shape op sources)
-    (memory_fault t.limits op (held + need_words (question_by op sources)) (depth_after op (length t.cells))
-    (length t.frames))
+    (t.executed ≡ t.limits.budget → ⊥) → early_end_at task t.executed ≡ ending_by line (shape op sources) (memory_fault
+    t.limits op (held + need_words (question_by op sources)) (depth_after op (length t.cells)) (length t.frames))
 early_end_is task t s op line sources held runs at can next held_is unspent =
     let other : s.executed ≡ task.limits.budget → ⊥ =
-    λ (e : s.executed ≡ task.limits.budget).
-    unspent (at.executed ∙ (e ∙ sym (ap (λ (l : Limits). l.budget) at.limits))) in
+    λ (e : s.executed ≡ task.limits.budget). unspent
+    (at.executed ∙ (e ∙ sym (ap (λ (l : Limits). l.budget) at.limits))) in
     let no : eqb s.executed task.limits.budget ≡ false = grind (arith, nat_tests) in
-    early_end_when task t.executed s runs
-    ∙ (ap (λ (b : Bool). cond b (Some Budget) (early_end_in task s s.calls)) no
-    ∙ (ap (early_end_in task s) can.calls
-    ∙ same_ending (next_item can.call).number line (question_of (next_item can.call).item s.stack)
-    (question_by op sources) task.limits t.limits (held_at task.rule (next_item can.call).item s) held
-    (length s.stack) (length t.cells)
-    (length s.calls) (length t.frames)
-    (same_line task t s op line sources runs can next) (same_question task t s op line sources runs can next)
-    (sym at.limits) (sym held_is) (sym at.cells) (sym (as_many (functions_of task.verified) t.frames s.calls
-    at.frames))))
+    early_end_when task t.executed s runs ∙ (ap (λ (b : Bool). cond b (Some Budget) (early_end_in task s s.calls)) no ∙
+    (ap (early_end_in task s) can.calls ∙ same_ending (next_item can.call).number line (question_of (next_item
+    can.call).item s.stack) (question_by op sources) task.limits t.limits (held_at task.rule (next_item can.call).item
+    s) held (length s.stack) (length t.cells) (length s.calls) (length t.frames) (same_line task t s op line sources
+    runs can next) (same_question task t s op line sources runs can next) (sym at.limits) (sym held_is) (sym at.cells)
+    (sym (as_many (functions_of task.verified) t.frames s.calls at.frames))))
+
+no_ending : (line : ℕ) (fault : Option DataFault) (refusal : Option MemoryFault) → ending_by line fault refusal ≡ None →
+    (fault ≡ None) × (refusal ≡ None)
+no_ending line fault refusal e = grind (arith, none-some)
+
+pub within_words : (limits : Limits) (op : Op) (words depth calls : ℕ) →
+    memory_fault limits op words depth calls ≡ None → words ≤ limits.words
+unfolding memory_fault
+within_words limits op words depth calls e = grind (arith, none-some)
 
 -- if the next instruction was read
 module _ (law : StepsCanBegin ℕ) (counted : HeldIsCounted) (number : ℕ) (blocks : JobBlocks) (task : Task)
-    (t : TrackState ℕ)
-    (run : IsRunningSlot (own_slots number blocks) task t) (verified : IsVerified task) (tidy : IsTidy blocks.memory)
+    (t : TrackState ℕ) (run : IsRunningSlot (own_slots number blocks) task t) (verified : IsVerified task)
+    (tidy : IsTidy blocks.memory)
     (op : Op) (line : ℕ) (sources : List (List ℤ)) (next : IsNext task t.executed op line sources) where
   can : CanBegin task t.executed run.state t
   can = can_begin law (own_slots number blocks) task t run verified
 
+  asked : question_of (next_item can.call).item run.state.stack ≡ question_by op sources
+  asked = same_question task t run.state op line sources run.running can next
+
   op_is : op_of (next_item can.call).item ≡ op
-  op_is = ap (λ (q : Question). q.op) (same_question task t run.state op line sources run.running can next)
+  op_is = ap (λ (q : Question). q.op) asked
 
   is_counted : IsCounted task.rule number blocks (next_item can.call).item run.state t.cells
   is_counted = counted task.rule number blocks (next_item can.call).item run.state t.cells run.holds tidy
@@ -189,90 +159,54 @@ module _ (law : StepsCanBegin ℕ) (counted : HeldIsCounted) (number : ℕ) (blo
   operands_are_own = subst (λ (o : Op). AreOwn number blocks (taken_ids o t.cells)) op_is is_counted.own
 
   pub operands_are_there : operand_count op ≤ length t.cells
-  operands_are_there =
-      subst (λ (o : Op). operand_count o ≤ length t.cells) op_is
-      (deep_enough (op_of (next_item can.call).item) (length t.cells) can.deep)
+  operands_are_there = grind (arith, op_is, deep_enough)
 
   -- an answer that finds the end before it from what was read
   pub ends_with : (held : ℕ) (answer : Option Ending) → held ≡ held_under task.rule number op t.cells blocks →
-      (t.executed ≡ t.limits.budget → ⊥) →
-      answer ≡ ending_by line (shape op sources)
+      (t.executed ≡ t.limits.budget → ⊥) → answer ≡ ending_by line (shape op sources)
       (memory_fault t.limits op (held + need_words (question_by op sources)) (depth_after op (length t.cells))
       (length t.frames)) → early_end_at task t.executed ≡ answer
   ends_with held answer held_here unspent told =
-      let held_is : held ≡ held_at task.rule (next_item can.call).item run.state =
-      held_here ∙ (ap (λ (o : Op). held_under task.rule number o t.cells blocks) (sym op_is) ∙ is_counted.held) in
+      let held_is : held ≡ held_at task.rule (next_item can.call).item run.state = held_here
+      ∙ (ap (λ (o : Op). held_under task.rule number o t.cells blocks) (sym op_is) ∙ is_counted.held) in
       early_end_is task t run.state op line sources held run.running run.at can next held_is unspent ∙ sym told
 
--- ---- what the next instruction holds and needs
+  -- ---- what it holds and needs
 
-no_ending : (line : ℕ) (fault : Option DataFault) (refusal : Option MemoryFault) →
-    ending_by line fault refusal ≡ None → (fault ≡ None) × (refusal ≡ None)
-no_ending line (Some fault) refusal e = absurd (none-some _ (sym e))
-no_ending line None (Some refusal) e = absurd (none-some _ (sym e))
-no_ending line None None e = (refl, refl)
+  module _ (held : ℕ) (held_here : held ≡ held_under task.rule number op t.cells blocks) where
+    counts : held ≡ held_at task.rule (next_item can.call).item run.state
+    counts = grind (arith, op_is, is_counted)
 
-pub within_words : (limits : Limits) (op : Op) (words depth calls : ℕ) →
-    memory_fault limits op words depth calls ≡ None → words ≤ limits.words
-unfolding memory_fault
-within_words limits op words depth calls e = by (ltb limits.words words) refl e
-  where
-    by : (b : Bool) → ltb limits.words words ≡ b →
-        cond b (Some memory.Words)
-        (cond (ltb limits.cells depth) (Some memory.Cells)
-        (cond (is_call op && ltb limits.calls (calls + 1)) (Some memory.Calls) None)) ≡ None → words ≤ limits.words
-    by true is e = absurd (none-some _ (sym e))
-    by false is e = grind (arith, nat_tests)
+    -- the words of the results and those that are held are its demand
+    pub demand_is : held + need_words (question_by op sources) ≡ demand_in task.rule (state_after task t.executed)
+    demand_is =
+        ap (λ (h : ℕ). h + need_words (question_by op sources)) counts
+        ∙ ap (λ (q : Question). held_at task.rule (next_item can.call).item run.state + need_words q) (sym asked)
+        ∙ sym (ap (demand_in task.rule) run.running ∙ ap (demand_before task.rule run.state) can.calls)
 
-module _ (law : StepsCanBegin ℕ) (counted : HeldIsCounted) (number : ℕ) (blocks : JobBlocks) (task : Task)
-    (t : TrackState ℕ)
-    (run : IsRunningSlot (own_slots number blocks) task t) (verified : IsVerified task) (tidy : IsTidy blocks.memory)
-    (op : Op) (line : ℕ) (sources : List (List ℤ)) (next : IsNext task t.executed op line sources) (held : ℕ)
-    (held_here : held ≡ held_under task.rule number op t.cells blocks) where
-  at_next : CanBegin task t.executed run.state t
-  at_next = can_begin law (own_slots number blocks) task t run verified
+    -- what is answered of its words
+    pub told_is : told_demand (shape op sources) held (need_words (question_by op sources))
+        ≡ told_demand_in task.rule (state_after task t.executed)
+    told_is =
+        ap (λ (h : ℕ). told_demand (shape op sources) h (need_words (question_by op sources))) counts
+        ∙ ap (λ (q : Question). told_demand (shape q.op q.sources)
+        (held_at task.rule (next_item can.call).item run.state) (need_words q)) (sym asked)
+        ∙ sym (ap (told_demand_in task.rule) run.running ∙ ap (told_demand_before task.rule run.state) can.calls)
 
-  asked : question_of (next_item at_next.call).item run.state.stack ≡ question_by op sources
-  asked = same_question task t run.state op line sources run.running at_next next
-
-  counts : held ≡ held_at task.rule (next_item at_next.call).item run.state
-  counts =
-      held_here
-      ∙ (ap (λ (o : Op). held_under task.rule number o t.cells blocks) (sym (ap (λ (q : Question). q.op) asked))
-      ∙ (counted task.rule number blocks (next_item at_next.call).item run.state t.cells run.holds tidy).held)
-
-  -- the words of the results and those that are held are its demand
-  pub demand_is : held + need_words (question_by op sources) ≡ demand_in task.rule (state_after task t.executed)
-  demand_is =
-      ap (λ (h : ℕ). h + need_words (question_by op sources)) counts
-      ∙ ap (λ (q : Question). held_at task.rule (next_item at_next.call).item run.state + need_words q) (sym asked)
-      ∙ sym (ap (demand_in task.rule) run.running ∙ ap (demand_before task.rule run.state) at_next.calls)
-
-  -- what is answered of its words
-  pub told_is : told_demand (shape op sources) held (need_words (question_by op sources))
-      ≡ told_demand_in task.rule (state_after task t.executed)
-  told_is =
-      ap (λ (h : ℕ). told_demand (shape op sources) h (need_words (question_by op sources))) counts
-      ∙ ap (λ (q : Question). told_demand (shape q.op q.sources)
-      (held_at task.rule (next_item at_next.call).item run.state) (need_words q)) (sym asked)
-      ∙ sym (ap (told_demand_in task.rule) run.running ∙ ap (told_demand_before task.rule run.state) at_next.calls)
-
-  -- if nothing ends the job before it, its operands fit one another, and its demand is within the limit
-  pub demand_fits : early_end_at task t.executed ≡ None →
-      (shape op sources ≡ None) × (held + need_words (question_by op sources) ≤ t.limits.words)
-  demand_fits none =
-      let ending =
-      early_end_is task t run.state op line sources held run.running run.at at_next next counts
-      (λ e. none-some _ (sym none ∙ budget_end task t run.state run.running run.at e)) in
-      let both = no_ending line (shape op sources) _ (sym ending ∙ none) in
-      (both.0, within_words t.limits op _ _ _ both.1)
+    -- if nothing ends the job before it, its operands fit one another, and its demand is within the limit
+    pub demand_fits : early_end_at task t.executed ≡ None →
+        (shape op sources ≡ None) × (held + need_words (question_by op sources) ≤ t.limits.words)
+    demand_fits none =
+        let ending = early_end_is task t run.state op line sources held run.running run.at can next counts
+        (λ e. none-some _ (sym none ∙ budget_end task t run.state run.running run.at e)) in
+        let both = no_ending line (shape op sources) _ (sym ending ∙ none) in
+        (both.0, within_words t.limits op _ _ _ both.1)
 
 -- what is answered of the words of the next instruction's results
 pub need_is : StepsCanBegin ℕ → (number : ℕ) (blocks : JobBlocks) (task : Task) (t : TrackState ℕ)
-    (run : IsRunningSlot (own_slots number blocks) task t) → IsVerified task → (op : Op) (line : ℕ)
-    (sources : List (List ℤ)) → IsNext task t.executed op line sources →
-    told_demand (shape op sources) 0 (need_words (question_by op sources))
-    ≡ told_need_in (state_after task t.executed)
+    (run : IsRunningSlot (own_slots number blocks) task t) → IsVerified task →
+    (op : Op) (line : ℕ) (sources : List (List ℤ)) → IsNext task t.executed op line sources →
+    told_demand (shape op sources) 0 (need_words (question_by op sources)) ≡ told_need_in (state_after task t.executed)
 need_is law number blocks task t run verified op line sources next =
     let at_next = can_begin law (own_slots number blocks) task t run verified in
     let asked = same_question task t run.state op line sources run.running at_next next in
@@ -281,29 +215,20 @@ need_is law number blocks task t run verified op line sources next =
 
 -- ---- if nothing ends the job
 
-can_ask : StepsCanAdvance ℕ → (task : Task) (t : TrackState ℕ) (s : State) (op : Op) (line : ℕ)
-    (sources : List (List ℤ))
-    (words : ℕ) → IsVerified task → state_after task t.executed ≡ Running s → IsAt task t s →
-    CanBegin task t.executed s t → IsNext task t.executed op line sources → early_end_at task t.executed ≡ None →
-    task.limits.words ≤ words → CanAsk words op sources
-can_ask law task t s op line sources words verified runs at can next goes_on enough =
-    let advance =
-    law verified.0 task verified.1 t.executed s t runs at (sym (early_end_when task t.executed s runs) ∙ goes_on)
-    can.call can.outer can.calls in
-    let same = same_question task t s op line sources runs can next in
+-- what is read is the next instruction, which can be asked if nothing ends the job before
+pub asks_on : StepsCanBegin ℕ → StepsCanAdvance ℕ →
+    (slots : List Slot) (task : Task) (t : TrackState ℕ) (run : IsRunningSlot slots task t) (op : Op) (line : ℕ)
+    (sources : List (List ℤ)) → IsVerified task → IsNext task t.executed op line sources →
+    early_end_at task t.executed ≡ None → (words : ℕ) → task.limits.words ≤ words → CanAsk words op sources
+asks_on begins advances slots task t run op line sources verified next goes_on words enough =
+    let can = can_begin begins slots task t run verified in
+    let advance = advances verified.0 task verified.1 t.executed run.state t run.running run.at
+    (sym (early_end_when task t.executed run.state run.running) ∙ goes_on) can.call can.outer can.calls in
+    let same = same_question task t run.state op line sources run.running can next in
     record {
       can = subst (λ (q : Question). CanAnswer words q) same (advance.answers words enough);
       room = subst (λ (q : Question). HaveAtMost words q.sources) same (advance.lengths words enough);
     }
-
--- what is read is the next instruction, which can be asked if nothing ends the job before
-pub asks_on : StepsCanBegin ℕ → StepsCanAdvance ℕ → (slots : List Slot) (task : Task) (t : TrackState ℕ)
-    (run : IsRunningSlot slots task t) (op : Op) (line : ℕ) (sources : List (List ℤ)) → IsVerified task →
-    IsNext task t.executed op line sources → early_end_at task t.executed ≡ None →
-    (words : ℕ) → task.limits.words ≤ words → CanAsk words op sources
-asks_on begins advances slots task t run op line sources verified next goes_on words enough =
-    can_ask advances task t run.state op line sources words verified run.running run.at
-    (can_begin begins slots task t run verified) next goes_on enough
 
 -- what was found of its needs is that of the job
 pub is_ready : (task : Task) (job : ℕ) (blocks : JobBlocks) (t : TrackState ℕ) (op : Op) (line : ℕ)
@@ -329,42 +254,15 @@ pub needs_count : ResultsHaveNeededLengths → (op : Op) (sources : List (List �
     AreResults (question_by op sources) first second → ◌≡◌ {A = ℕ × ℕ} (needs.first, needs.second) (need op sources) →
     needs.words ≡ held + needs.first + needs.second → CountsAs (held + length first + length second) peak needs.words
 needs_count law op sources first second held peak most needs can results lengths words_are =
-    let both : ◌≡◌ {A = ℕ × ℕ} (needs.first, needs.second)
-    (length (result_of op sources), length (second_result_of op sources)) =
-    lengths ∙ law op sources (length_by_kinds _ sources can.kinds) can.shaped results.no_fault in
-    let same : needs.words ≡ held + length first + length second =
-    omega (
-      arith,
-      ap (λ (p : ℕ × ℕ). p.0) both,
-      ap (λ (p : ℕ × ℕ). p.1) both,
-      ap length results.first_result,
-      ap length results.second_result,
-      words_are,
-    ) in
-    ap (max peak) same
+    grind (arith, length_by_kinds)
 
 -- ---- if something does
 
 abbrev IsNoReturn : Option Ending → Type 0
 IsNoReturn ending = MatchOption ending (Unit {0}) (λ e. IsReturned e → ⊥)
 
-no_return_by : (line : ℕ) (fault : Option DataFault) (refusal : Option MemoryFault) →
-    IsNoReturn (ending_by line fault refusal)
-no_return_by line (Some fault) refusal = λ returned. returned
-no_return_by line None (Some refusal) = λ returned. returned
-no_return_by line None None = tt
-
-no_return_in : (task : Task) (s : State) (calls : List Active) → IsNoReturn (early_end_in task s calls)
-no_return_in task s [] = tt
-no_return_in task s (call ∷ outer) = no_return_by _ _ _
-
 no_return : (task : Task) (s : State) → IsNoReturn (early_end task s)
-no_return task s =
-    elim (eqb s.executed task.limits.budget)
-    as (λ b. IsNoReturn (cond b (Some Budget) (early_end_in task s s.calls))) [
-      | true ↦ λ returned. returned
-      | false ↦ no_return_in task s s.calls
-    ]
+no_return task s = grind (arith, IsNoReturn)
 
 -- that is the job's end
 pub is_ending : EarlyEndsEnd → (slots : List Slot) (task : Task) (t : TrackState ℕ) (run : IsRunningSlot slots task t)

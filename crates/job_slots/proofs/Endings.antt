@@ -1,7 +1,6 @@
 -- The state in which a job returns.
-use Rattle.std.proofs.Common.{◌≡◌, ℕ, zero, suc, ◌+◌, ◌≤◌, Bool, true, false, cond, eqb, List, [], ◌∷◌}
-use Rattle.std.proofs.Common.{Option, Some, None, length}
-use Rattle.std.proofs.Common.{refl, ◌∙◌, ap, arith}
+use Rattle.std.proofs.Common.{◌≡◌, ℕ, zero, suc, ◌+◌, ◌≤◌, Bool, cond, eqb, List, [], ◌∷◌, Option, length, refl, ◌∙◌}
+use Rattle.std.proofs.Common.{ap, arith}
 use Rattle.std.specs.Prelude.{reverse}
 use Rattle.std.proofs.lemmas.List.{length-reverse, length-map}
 use Rattle.vcode_base.specs.declared.fault.DataFault.{DataFault}
@@ -9,41 +8,29 @@ use Rattle.vcode_base.specs.declared.fault.MemoryFault.{MemoryFault}
 use Rattle.vcode_base.specs.declared.outcome.Outcome.{Outcome}
 use Rattle.vcode_base.specs.declared.outcome.Outcome.TheVariants.{Returned, Budget}
 use Rattle.vcode_base.specs.declared.rule.Rule.{Rule}
-use Rattle.vcode_base.specs.Instructions.{op_of}
-use Rattle.vcode_base.specs.Meaning.{value_fault}
 use Rattle.vcode_reader.specs.declared.line.Numbered.{Numbered}
 use Rattle.vcode_reader.specs.Trees.{Item}
 use Rattle.signatures.specs.Signatures.{Signature}
 use Rattle.job_steps.specs.Reached.{IsVerifiedTask, Reaches, EachEnds}
 use Rattle.job_steps.specs.Runs.{state_after, progress_from, outcome, executed_count, peak, whole_run}
 use Rattle.job_steps.specs.States.{Vector, Task, StackEntry, Active, State, values_of}
-use Rattle.job_steps.specs.Steps.{Progress, Running, Over, Stuck, next_item, sources_of, question_of, flag_of, can_run}
-use Rattle.job_steps.specs.Steps.{ending_by, calls_after, progress_past, progress_by, progress_unless}
-use Rattle.job_steps.specs.Steps.{progress_in, next_progress}
+use Rattle.job_steps.specs.Steps.{Progress, Running, Over, Stuck, ending_by, progress_by, progress_unless, progress_in}
+use Rattle.job_steps.specs.Steps.{next_progress}
 
 -- what is over with these values as results has them on its stack
 abbrev Returns : State → Progress → Type 0
 Returns s p = (values : List Vector) (x y : ℕ) → p ≡ Over (Returned values) x y → reverse (values_of s.stack) ≡ values
 
-returns_past : (rule : Rule) (item : Item) (s : State) (calls : List Active) →
-    Returns s (progress_past rule item s calls)
-returns_past rule item s [] values x y e = cc
-returns_past rule item s (call ∷ outer) values x y e = absurd (cc)
-
 returns_by : (rule : Rule) (fault : Option DataFault) (line : Numbered Item) (s : State) (calls : List Active) →
     Returns s (progress_by rule fault line s calls)
-returns_by rule (Some fault) line s calls values x y e = absurd (cc)
-returns_by rule None line s calls values x y e = returns_past rule line.item s calls values x y e
+returns_by rule fault line s calls values x y e = grind arith
 
 returns_unless : (line : ℕ) (shape : Option DataFault) (refusal : Option MemoryFault) (s : State) (p : Progress) →
     Returns s p → Returns s (progress_unless (ending_by line shape refusal) s p)
-returns_unless line (Some fault) refusal s p later values x y e = absurd (cc)
-returns_unless line None (Some refusal) s p later values x y e = absurd (cc)
-returns_unless line None None s p later values x y e = later values x y e
+returns_unless line shape refusal s p later values x y e = grind arith
 
 returns_where : (b : Bool) (s : State) (p q : Progress) → Returns s p → Returns s q → Returns s (cond b p q)
-returns_where true s p q first second = first
-returns_where false s p q first second = second
+returns_where b s p q first second = grind arith
 
 stuck_returns : (s : State) → Returns s Stuck
 stuck_returns s values x y e = absurd (cc)
@@ -51,12 +38,7 @@ stuck_returns s values x y e = absurd (cc)
 returns_in : (task : Task) (s : State) (calls : List Active) → Returns s (progress_in task s calls)
 returns_in task s [] = stuck_returns s
 returns_in task s (call ∷ outer) =
-    returns_where (can_run task.verified (next_item call).item s.stack) s _ Stuck
-    (returns_unless (next_item call).number _ _ s _
-    (returns_by task.rule (value_fault (op_of (next_item call).item) (sources_of (next_item call).item s.stack))
-    (next_item call) s
-    (calls_after task.verified (flag_of (question_of (next_item call).item s.stack)) call.rest call.ret outer)))
-    (stuck_returns s)
+    returns_where _ s _ _ (returns_unless _ _ _ s _ (returns_by _ _ _ s _)) (stuck_returns s)
 
 returns_next : (task : Task) (s : State) → Returns s (next_progress task s)
 unfolding next_progress
@@ -75,10 +57,7 @@ pub record HasStack (task : Task) (values : List Vector) : Type 0 where
 last_from : (task : Task) (n : ℕ) (p : Progress) → state_after task n ≡ p →
     ((values : List Vector) (x y : ℕ) → state_after task n ≡ Over (Returned values) x y → HasStack task values) →
     (values : List Vector) (x y : ℕ) → progress_from task p ≡ Over (Returned values) x y → HasStack task values
-last_from task n (Running s) is before values x y e =
-    record { n = n; state = s; running = is; values_are = returns_next task s values x y e }
-last_from task n (Over ending count most) is before values x y e = before values x y (is ∙ e)
-last_from task n Stuck is before values x y e = absurd (let h : Stuck ≡ Over (Returned values) x y = e in cc)
+last_from task n p is before values x y e = grind (arith, returns_next)
 
 -- a job that has returned ran with its results as its stack
 pub last_stack : (task : Task) (n : ℕ) (values : List Vector) (x y : ℕ) →
@@ -103,12 +82,4 @@ few_results reached ends signatures task verified stack is =
     let within = (reached signatures task verified last.n last.state last.running).cells in
     let same : length (reverse (values_of last.state.stack)) ≡ length (reverse (values_of stack)) =
     ap length last.values_are in
-    omega (
-      arith,
-      same,
-      within,
-      length-reverse (values_of stack),
-      length-reverse (values_of last.state.stack),
-      length-map stack (λ (e : StackEntry). e.value),
-      length-map last.state.stack (λ (e : StackEntry). e.value),
-    )
+    grind (arith, length-reverse, length-map)

@@ -1,6 +1,6 @@
 -- A new block in the place of an instruction's operands.
-use Rattle.std.proofs.Common.{◌≡◌, ◌≢◌, ◌∙◌, ◌+◌, ◌<◌, ◌≤◌, ℕ, ℤ, List, [], ◌∷◌, length, refl, sym, ap, subst, inl, inr}
-use Rattle.std.proofs.Common.{arith, true, zero, suc, get_or}
+use Rattle.std.proofs.Common.{◌≡◌, ◌≢◌, ◌∙◌, ◌+◌, ◌<◌, ◌≤◌, ℕ, ℤ, List, [], ◌∷◌, length, refl, sym, ap, subst, arith}
+use Rattle.std.proofs.Common.{true, zero, suc, get_or}
 use Rattle.std.specs.Prelude.{All, ◌==◌}
 use Rattle.std.proofs.lemmas.List.Elements.{All-nil, All-cons, All-weaker}
 use Rattle.std.proofs.lemmas.Bool.{cases_eq}
@@ -40,31 +40,14 @@ pub lower : ReleaseLaws → (job : ℕ) (blocks : JobBlocks) (ids : List ℕ) �
 lower laws job blocks ids own =
     let free = laws.only_free blocks.memory ids (own_named job blocks.memory ids own) in
     let changes = laws.only_their_job blocks job ids own in
-    record {
-      held = omega (arith, free.0, changes.memory.balance (λ slot. length slot.words));
-      count = free.1;
-      numbers = changes.memory.ids;
-    }
+    grind (arith, changes.memory.balance (λ slot. length slot.words))
 
 -- ---- a block that is placed takes none of the operands
 
 pub own_still : (job : ℕ) (old placed : JobBlocks) (id : ℕ) (words : List ℤ) (taken : List ℕ) →
     slot_at old.memory id ≡ empty_slot → placed ≡ with_block old job id words → AreOwn job old taken →
     AreOwn job placed taken
-own_still job old placed id words taken empty is own =
-    subst (λ (b : JobBlocks). AreOwn job b taken) (sym is) (λ k. elim (cases_eq k id) [
-      | inl e ↦ omega (
-        arith,
-        own k,
-        none_here job old.memory id empty,
-        ap (λ (i : ℕ). (own_slot job old.memory i).count) e,
-      )
-      | inr ne ↦ omega (
-        arith,
-        own k,
-        ap (λ (s : Slot). s.count) (placed_there job old.memory id k words ne),
-      )
-    ])
+own_still job old placed id words taken empty is own = grind (arith, cases_eq, none_here, own_slot, placed_there)
 
 -- ---- the exchange
 
@@ -85,13 +68,7 @@ by_placing laws job taken id words old within empty own =
     let placed : JobBlocks = with_block old job id words in
     let adds = adds_block job old.memory id (new_slot job words) within empty refl refl in
     let less = lower laws job placed taken (own_still job old placed id words taken empty refl own) in
-    record {
-      is = record { within = within; free = empty; exchanged = refl };
-      held = omega (arith, adds.held, less.held);
-      count = omega (arith, adds.count, less.count);
-      numbers = less.numbers ∙ adds.numbers;
-      grants = refl;
-    }
+    grind arith
 
 by_releasing : ReleaseLaws → (job : ℕ) (taken : List ℕ) (id : ℕ) (words : List ℤ) (old : JobBlocks) →
     id < length old.memory.slots → slot_at (state_after_releases old.memory taken) id ≡ empty_slot →
@@ -101,26 +78,14 @@ by_releasing laws job taken id words old within empty own =
     let less = lower laws job old taken own in
     let adds = adds_block job (state_after_releases old.memory taken) id (new_slot job words)
     (omega (arith, within, less.numbers)) empty refl refl in
-    record {
-      is = record { within = within; free = empty; exchanged = refl };
-      held = omega (arith, adds.held);
-      count = omega (arith, adds.count, less.count);
-      numbers = adds.numbers ∙ less.numbers;
-      grants = refl;
-    }
+    grind arith
 
 pub placed_and_released : ReleaseLaws → (rule : Rule) (job : ℕ) (taken ids : List ℕ) (id : ℕ) (words : List ℤ)
     (old placed new : JobBlocks) → rule ≡ First → id < length old.memory.slots → slot_at old.memory id ≡ empty_slot →
     placed ≡ with_block old job id words → ids ≡ taken → new ≡ with_releases ids placed → AreOwn job old taken →
     HasExchanged rule job taken id words old new
 placed_and_released laws rule job taken ids id words old placed new first within empty placed_is ids_are new_is own =
-    let is : new ≡ with_releases taken (with_block old job id words) =
-    new_is
-    ∙ (ap (λ (xs : List ℕ). with_releases xs placed) ids_are
-    ∙ ap (λ (b : JobBlocks). with_releases taken b) placed_is) in
-    subst (λ (b : JobBlocks). HasExchanged rule job taken id words old b) (sym is)
-    (subst (λ (r : Rule). HasExchanged r job taken id words old (with_releases taken (with_block old job id words)))
-    (sym first) (by_placing laws job taken id words old within empty own))
+    grind (arith, by_placing)
 
 pub released_and_placed : ReleaseLaws → (rule : Rule) (job : ℕ) (taken ids : List ℕ) (id : ℕ) (words : List ℤ)
     (old new : JobBlocks) → rule ≡ Second → id < length old.memory.slots →
@@ -128,21 +93,13 @@ pub released_and_placed : ReleaseLaws → (rule : Rule) (job : ℕ) (taken ids :
     new ≡ with_block (with_releases ids old) job id words → AreOwn job old taken →
     HasExchanged rule job taken id words old new
 released_and_placed laws rule job taken ids id words old new second within empty ids_are new_is own =
-    let is : new ≡ with_block (with_releases taken old) job id words =
-    new_is ∙ ap (λ (xs : List ℕ). with_block (with_releases xs old) job id words) ids_are in
-    let free : slot_at (state_after_releases old.memory taken) id ≡ empty_slot =
-    subst (λ (xs : List ℕ). slot_at (state_after_releases old.memory xs) id ≡ empty_slot) ids_are empty in
-    subst (λ (b : JobBlocks). HasExchanged rule job taken id words old b) (sym is)
-    (subst (λ (r : Rule). HasExchanged r job taken id words old (with_block (with_releases taken old) job id words))
-    (sym second) (by_releasing laws job taken id words old within free own))
+    grind (arith, slot_at, by_releasing)
 
 -- whatever the rule, an exchange that releases first leaves no more than counts as held, and the words
 pub held_whatever : ReleaseLaws → (rule : Rule) (job : ℕ) (taken : List ℕ) (id : ℕ) (words : List ℤ)
     (old new : JobBlocks) → AreOwn job old taken → HasExchanged Second job taken id words old new →
     held_words job new ≤ held_words job (blocks_beside rule taken old) + length words
-held_whatever laws First job taken id words old new own has =
-    omega (arith, has.held, (lower laws job old taken own).held)
-held_whatever laws Second job taken id words old new own has = has.held
+held_whatever laws rule job taken id words old new own has = grind (arith, lower)
 
 -- ---- numbers that are listed
 
@@ -165,17 +122,15 @@ listed ids (first ∷ rest) within =
 -- a job's own blocks are there
 pub own_are_live : (job : ℕ) (blocks : JobBlocks) (ids : List ℕ) → AreOwn job blocks ids → AreLive blocks.memory ids
 own_are_live job blocks ids own =
-    All-weaker (λ id. 0 < occurrences id ids) (λ id. IsLive blocks.memory id)
-    (λ id some.
-    let named : occurrences id ids ≤ (slot_at blocks.memory id).count = own_named job blocks.memory ids own id in
-    omega (arith, named, some)) ids
-    (listed ids ids (λ id. omega arith))
+    All-weaker (λ id. 0 < occurrences id ids) (λ id. IsLive blocks.memory id) (λ id some. let named : occurrences id ids
+    ≤ (slot_at blocks.memory id).count = own_named job blocks.memory ids own id in
+    omega (arith, named, some)) ids (listed ids ids (λ id. omega arith))
 
 -- ---- placed while the operands are there, whatever the rule
 
 other_than : (id first : ℕ) (ids : List ℕ) → occurrences id (first ∷ ids) ≡ 0 → first ≢ id
-other_than id first ids none = λ e.
-    let here : occurrences id (first ∷ ids) ≡ occurrences id ids + 1 =
+other_than id first ids none =
+    λ e. let here : occurrences id (first ∷ ids) ≡ occurrences id ids + 1 =
     subst (λ (n : ℕ). occurrences n (first ∷ ids) ≡ occurrences n ids + 1) e (named_here first ids) in
     omega (arith, none, here)
 
@@ -187,9 +142,8 @@ released_apart : (memory : SharedState) (id : ℕ) (ids : List ℕ) → occurren
     slot_at (state_after_releases memory ids) id ≡ slot_at memory id
 released_apart memory id [] none = refl
 released_apart memory id (first ∷ ids) none =
-    released_apart (state_after_release memory first) id ids (none_after id first ids none)
-    ∙ get_or-set_other memory.slots first id (lowered_slot (slot_at memory first)) empty_slot
-    (λ e. other_than id first ids none (sym e))
+    released_apart (state_after_release memory first) id ids (none_after id first ids none) ∙ get_or-set_other
+    memory.slots first id (lowered_slot (slot_at memory first)) empty_slot (λ e. other_than id first ids none (sym e))
 
 abbrev of_slots : SharedState → List Slot → SharedState
 of_slots memory slots = record { room = memory.room; slots = slots }
@@ -202,11 +156,9 @@ written_apart memory id slot (first ∷ ids) none =
     let apart : first ≢ id = other_than id first ids none in
     let same : slot_at (with_slot memory id slot) first ≡ slot_at memory first =
     get_or-set_other memory.slots id first slot empty_slot apart in
-    let once : state_after_release (with_slot memory id slot) first ≡ with_slot
-    (state_after_release memory first) id slot =
-    ap (λ (s : Slot). with_slot (with_slot memory id slot) first (lowered_slot s)) same
-    ∙ ap (of_slots memory) (set_comm memory.slots id first slot (lowered_slot (slot_at memory first))
-    (λ e. apart (sym e))) in
+    let once : state_after_release (with_slot memory id slot) first ≡ with_slot (state_after_release memory first) id
+    slot = ap (λ (s : Slot). with_slot (with_slot memory id slot) first (lowered_slot s)) same ∙ ap (of_slots memory)
+    (set_comm memory.slots id first slot (lowered_slot (slot_at memory first)) (λ e. apart (sym e))) in
     ap (λ (m : SharedState). state_after_releases m ids) once
     ∙ written_apart (state_after_release memory first) id slot ids (none_after id first ids none)
 
@@ -217,36 +169,18 @@ pub record HasReplaced (rule : Rule) (job : ℕ) (taken : List ℕ) (id : ℕ) (
     pub counted : words_by rule (held_words job old + length words) (held_words job new)
         ≡ held_words job (blocks_beside rule taken old) + length words
 
-counted_after : ReleaseLaws → (rule : Rule) (job : ℕ) (taken : List ℕ) (id : ℕ) (words : List ℤ) (old : JobBlocks) →
-    id < length old.memory.slots → slot_at (state_after_releases old.memory taken) id ≡ empty_slot →
-    AreOwn job old taken →
-    words_by rule (held_words job old + length words)
-    (held_words job (with_block (with_releases taken old) job id words))
-    ≡ held_words job (blocks_beside rule taken old) + length words
-counted_after laws First job taken id words old within empty own = refl
-counted_after laws Second job taken id words old within empty own =
-    let less = lower laws job old taken own in
-    let adds = adds_block job (state_after_releases old.memory taken) id (new_slot job words)
-    (omega (arith, within, less.numbers)) empty refl refl in
-    omega (arith, adds.held)
-
 pub placed_after : ReleaseLaws → (rule : Rule) (job : ℕ) (taken : List ℕ) (id : ℕ) (words : List ℤ)
     (old new : JobBlocks) → id < length old.memory.slots →
     slot_at (state_after_releases old.memory taken) id ≡ empty_slot → AreOwn job old taken →
     new ≡ with_block (with_releases taken old) job id words → HasReplaced rule job taken id words old new
-placed_after laws rule job taken id words old new within empty own is =
-    subst (HasReplaced rule job taken id words old) (sym is) (record {
-      is = record { within = within; free = empty; exchanged = refl };
-      counted = counted_after laws rule job taken id words old within empty own;
-    })
+placed_after laws rule job taken id words old new within empty own is = grind (arith, lower, adds_block)
 
 pub placed_before : ReleaseLaws → (rule : Rule) (job : ℕ) (taken : List ℕ) (id : ℕ) (words : List ℤ)
     (old new : JobBlocks) → AreOwn job old taken → HasExchanged First job taken id words old new →
     HasReplaced rule job taken id words old new
 placed_before laws rule job taken id words old new own has =
     let none : occurrences id taken ≡ 0 = omega (arith, own id, none_here job old.memory id has.is.free) in
-    placed_after laws rule job taken id words old new has.is.within
-    (released_apart old.memory id taken none ∙ has.is.free) own
+    placed_after laws _ _ _ id _ _ _ has.is.within (released_apart old.memory id taken none ∙ has.is.free) own
     (has.is.exchanged ∙ ap (with_memory old) (written_apart old.memory id (new_slot job words) taken none))
 
 -- ---- without operands
@@ -257,5 +191,4 @@ nothing_in (x ∷ xs) none = absurd (grind (arith, nat_tests))
 
 pub held_beside_none : (rule : Rule) (job : ℕ) (op : Op) (ids : List ℕ) (blocks : JobBlocks) → taken_ids op ids ≡ [] →
     held_under rule job op ids blocks ≡ held_words job blocks
-held_beside_none First job op ids blocks none = refl
-held_beside_none Second job op ids blocks none = ap (λ (xs : List ℕ). held_words job (with_releases xs blocks)) none
+held_beside_none rule job op ids blocks none = grind arith

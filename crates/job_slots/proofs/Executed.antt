@@ -1,13 +1,12 @@
 -- The result of executing the next instruction of a job whose step is in flight.
 use Rattle.std.proofs.Common.{◌≡◌, ◌∙◌, ◌+◌, ◌-◌, ◌^◌, ◌<◌, ◌≤◌, ℕ, ℤ, Bool, List, [], ◌∷◌, length, map, take, drop}
-use Rattle.std.proofs.Common.{Option, Some, None, refl, sym, ap, subst, arith, length-take, length-drop}
+use Rattle.std.proofs.Common.{Option, Some, None, sym, ap, subst, arith, length-take, length-drop}
 use Rattle.std.specs.Prelude.{All}
 use Rattle.std.proofs.lemmas.List.{length-reverse}
 use Rattle.std.proofs.lemmas.List.Elements.{All-nil, All-cons, All-head, All-tail, All-weaker, All-take, All-drop}
 use Rattle.std.proofs.lemmas.List.Sums.{count_by-le-length}
 use Rattle.vcode_base.specs.declared.op.Op.{Op}
-use Rattle.vcode_base.specs.declared.op.Op.TheVariants.{Move, Return}
-use Rattle.vcode_base.specs.declared.op.StackMove.TheVariants.{Copy}
+use Rattle.vcode_base.specs.declared.op.Op.TheVariants.{Return}
 use Rattle.vcode_base.specs.declared.fault.DataFault.{DataFault}
 use Rattle.vcode_base.specs.declared.rule.Rule.{Rule}
 use Rattle.vcode_base.specs.Instructions.{op_of}
@@ -24,15 +23,14 @@ use Rattle.job_steps.specs.Motions.{stack_after}
 use Rattle.job_steps.specs.Questions.{Question, need_words}
 use Rattle.job_steps.specs.Reached.{Reaches, IsReached, IsVerifiedTask}
 use Rattle.job_steps.specs.Runs.{state_after}
-use Rattle.job_steps.specs.Standings.{held_in}
 use Rattle.job_steps.specs.States.{Vector, Task, StackEntry, Active, State, new_entries}
 use Rattle.job_steps.specs.StepLaws.{CanAdvance, StepsCanAdvance}
-use Rattle.job_steps.specs.Steps.{Running, next_item, sources_of, question_of, results_of, flag_of}
-use Rattle.job_steps.specs.Steps.{words_at, calls_after, progress_by, progress_past, vectors_of}
+use Rattle.job_steps.specs.Steps.{Running, next_item, sources_of, question_of, results_of, flag_of, words_at}
+use Rattle.job_steps.specs.Steps.{calls_after, progress_by, progress_past, vectors_of}
 use Rattle.job_steps.specs.Tickets.{AreResults}
 use Rattle.job_steps.specs.Tracks.{TrackState, IsAt, IsDeep, IsWhere, Advances, EachTrackFollows}
-use Rattle.job_slots.specs.Answers.{question_at, question_in, question_before}
-use Rattle.job_slots.specs.Commits.{CanTake, held_under, moved_ids}
+use Rattle.job_slots.specs.Answers.{question_at}
+use Rattle.job_slots.specs.Commits.{held_under, moved_ids}
 use Rattle.job_slots.specs.Executions.{AreFew, CanShare, CanSettle, CanGoPast, HasSettled, IsCounted, IsExecuted}
 use Rattle.job_slots.specs.Executions.{CanExecute, StepsExecute}
 use Rattle.job_slots.specs.Holdings.{Cell, ids_of, entries_of, AreHeld, HoldStack}
@@ -40,7 +38,7 @@ use Rattle.job_slots.specs.Slots.{IsAfter}
 use Rattle.job_slots.proofs.Commits.{BlockLaws, IsCommitted, can_commit, committed}
 use Rattle.job_slots.proofs.Exchanges.{listed}
 use Rattle.job_slots.proofs.Placed.{AreCommitted, NewCells, new_cells}
-use Rattle.job_slots.proofs.Instructions.{two_results, length_by_kinds, return_leaves, stack_at_return}
+use Rattle.job_slots.proofs.Instructions.{two_results, length_by_kinds, return_leaves}
 use Rattle.job_slots.proofs.Reversed.{All-reverse}
 use Rattle.job_slots.proofs.Seen.{count_seen}
 use Rattle.job_slots.proofs.Under.{held_is_counted}
@@ -59,8 +57,7 @@ pub record Laws : Type 0 where
 All-of_map : {E F : Type 0} (P : F → Type 0) (f : E → F) (xs : List E) → All P (map f xs) → All (λ x. P (f x)) xs
 All-of_map P f [] all = All-nil (λ x. P (f x))
 All-of_map P f (x ∷ xs) all =
-    All-cons (λ y. P (f y)) x xs (All-head P (f x) (map f xs) all)
-    (All-of_map P f xs (All-tail P (f x) (map f xs) all))
+    All-cons (λ y. P (f y)) x xs (All-head P (f x) (map f xs) all) (All-of_map P f xs (All-tail P (f x) (map f xs) all))
 
 -- ---- what is copied
 
@@ -70,13 +67,11 @@ few_held : (job : ℕ) (old : JobBlocks) (cells : List Cell) → AreHeld (own_sl
 few_held job old cells held small =
     All-weaker (λ id. 0 < occurrences id (ids_of cells))
     (λ id. (slot_at old.memory id).count + length (ids_of cells) < 2 ^ 64)
-    (λ id some.
-    let own : (slot_in (own_slots job old) id).count ≡ occurrences id (ids_of cells) = held.counts id in
+    (λ id some. let own : (slot_in (own_slots job old) id).count ≡ occurrences id (ids_of cells) = held.counts id in
     let seen : (slot_at old.memory id).count ≡ (slot_in (own_slots job old) id).count =
     count_seen job old.memory id (omega (arith, own, some)) in
     let most : occurrences id (ids_of cells) ≤ length (ids_of cells) = count_by-le-length _ (ids_of cells) in
-    omega (arith, own, seen, most, small))
-    (ids_of cells) (listed (ids_of cells) (ids_of cells) (λ id. omega arith))
+    omega (arith, own, seen, most, small)) (ids_of cells) (listed (ids_of cells) (ids_of cells) (λ id. omega arith))
 
 few_moved : (lower upper : ℕ) (ids : List ℕ) (blocks : JobBlocks) → AreFew blocks ids →
     AreFew blocks (moved_ids lower upper ids)
@@ -96,8 +91,7 @@ few_moved lower upper ids blocks few =
     (All-drop (λ id. (slot_at blocks.memory id).count + length ids < 2 ^ 64) upper ids few)))
 
 share_room : (op : Op) (cells : List ℕ) (blocks : JobBlocks) → AreFew blocks cells → CanShare op cells blocks
-share_room (Move Copy lower upper) cells blocks few = few_moved lower upper cells blocks few
-share_room op cells blocks few = tt
+share_room op cells blocks few = grind (arith, few_moved)
 
 -- ---- the state of the job
 
@@ -105,18 +99,9 @@ share_room op cells blocks few = tt
 is_after : (slots : List Slot) (task : Task) (u : TrackState ℕ) (item : Item) (s : State) (calls : List Active) →
     state_after task s.executed ≡ Running s → (calls ≡ [] → op_of item ≡ Return) →
     IsWhere task u (progress_past task.rule item s calls) →
-    HoldStack slots u.cells (stack_after (op_of item) (new_entries s.next (results_of
-    (question_of item s.stack))) s.stack) →
-    IsAfter slots task u (progress_past task.rule item s calls)
-is_after slots task u item s [] running leaves where_is holds =
-    let q = question_of item s.stack in
-    let same : stack_after (op_of item) (new_entries s.next (results_of q)) s.stack ≡ s.stack =
-    stack_at_return (op_of item) (leaves refl) (result_of q.op q.sources ∷ second_result_of q.op q.sources ∷ []) s.next
-    s.stack in
-    let before : s.executed + 1 - 1 ≡ s.executed = omega arith in
-    let last : state_after task (s.executed + 1 - 1) ≡ Running s = ap (state_after task) before ∙ running in
-    (where_is, (s.stack, refl, sym (ap held_in last), subst (HoldStack slots u.cells) same holds))
-is_after slots task u item s (call ∷ outer) running leaves where_is holds = (where_is, holds)
+    HoldStack slots u.cells (stack_after (op_of item) (new_entries s.next (results_of (question_of item s.stack)))
+    s.stack) → IsAfter slots task u (progress_past task.rule item s calls)
+is_after slots task u item s calls running leaves where_is holds = grind arith
 
 -- ---- the question
 
@@ -124,11 +109,7 @@ pub asked_is : (task : Task) (n : ℕ) (s : State) (call : Active) (outer : List
     state_after task n ≡ Running s → s.calls ≡ call ∷ outer → question_at task n ≡ Some question →
     question_of (next_item call).item s.stack ≡ question
 unfolding question_at
-asked_is task n s call outer question running calls asked =
-    let here : question_in (Running s) ≡ Some question = ap question_in (sym running) ∙ asked in
-    let found : ◌≡◌ {A = Option Question} (Some (question_of (next_item call).item s.stack)) (Some question) =
-    ap (question_before s) (sym calls) ∙ here in
-    cc
+asked_is task n s call outer question running calls asked = grind arith
 
 -- ---- one step in flight
 
@@ -164,8 +145,7 @@ module _ (laws : Laws) (signatures : List Signature) (task : Task) (verified : I
       let lengths = laws.results_have_needed_lengths op sources (length_by_kinds _ sources kinds) can.shaped
       results.no_fault in
       let needed : need_words (question_of item s.stack)
-      ≡ length (result_of op sources) + length (second_result_of op sources) =
-      ap (λ (p : ℕ × ℕ). p.0 + p.1) lengths in
+      ≡ length (result_of op sources) + length (second_result_of op sources) = ap (λ (p : ℕ × ℕ). p.0 + p.1) lengths in
       omega (arith, needed, counted.held, ap length results.first_result, ap length results.second_result)
 
   tags : All (λ c. c.entry.tag < s.next) holds.cells
@@ -175,10 +155,7 @@ module _ (laws : Laws) (signatures : List Signature) (task : Task) (verified : I
 
   -- the results as entries
   values_are : vectors_of (result_kinds op) (first ∷ second ∷ []) ≡ results_of (question_of item s.stack)
-  values_are =
-      ap (λ (l : List ℤ). vectors_of (result_kinds op) (l ∷ second ∷ [])) results.first_result
-      ∙ ap (λ (l : List ℤ). vectors_of (result_kinds op) (result_of op (sources_of item s.stack) ∷ l ∷ []))
-      results.second_result
+  values_are = grind (arith, op, item)
 
   goes_past : CanGoPast task.verified t op
   goes_past = record { unspent = can.unspent; deep = can.deep; cells = can.cells; follows = can.follows }
@@ -192,23 +169,19 @@ module _ (laws : Laws) (signatures : List Signature) (task : Task) (verified : I
       record {
         deep = can.deep;
         own = counted.own;
-        can_take = subst (λ (xs : List ℕ). CanTake job op xs old) (sym holds.ids_are)
-            (can_commit laws.blocks job old holds.cells holds.held op).can_take;
+        can_take = rw holds.ids_are (can_commit laws.blocks job old holds.cells holds.held op).can_take;
         can_share = share_room op t.cells old (subst (AreFew old) (sym holds.ids_are) few);
       }
 
   module _ (form : Rule) (ids : List ℕ) (new : JobBlocks) (has : HasSettled form job op first second t.cells ids old
       new) where
     made : NewCells form job op t.cells ids s.next (vectors_of (result_kinds op) (first ∷ second ∷ [])) old new
-    made =
-        new_cells form job op t.cells first second s.next old new (result_kinds op) ids has.given (two_results op)
-        has.settled
+    made = grind (arith, new_cells, op, two_results)
 
     commits : IsCommitted job op old new holds.cells made.cells
     commits =
         committed laws.blocks form job op old new holds.cells made.cells s.next
-        (vectors_of (result_kinds op) (first ∷ second ∷ [])) holds.held tags made.entries_are
-        (made.count ∙ has.given)
+        (vectors_of (result_kinds op) (first ∷ second ∷ [])) holds.held tags made.entries_are (made.count ∙ has.given)
         (subst (λ (xs : List ℕ). AreCommitted form job op xs made.cells old new) holds.ids_are made.are_committed)
 
     module _ (u : TrackState ℕ)
@@ -237,9 +210,8 @@ module _ (laws : Laws) (signatures : List Signature) (task : Task) (verified : I
           laws.each_track_follows task t u s call outer ids at calls (subst (IsDeep op) at.cells can.deep) has.given
           (subst (λ (w : ℕ). Advances task.verified op flag ids w t u) (sym words_are) advances)
 
-      executed : state_after task (t.executed + 1) ≡ progress_by task.rule
-          (value_fault op (sources_of item s.stack)) (next_item call) s
-          (calls_after task.verified flag call.rest call.ret outer) → IsExecuted job old new task t u
+      executed : state_after task (t.executed + 1) ≡ progress_by task.rule (value_fault op (sources_of item s.stack))
+          (next_item call) s (calls_after task.verified flag call.rest call.ret outer) → IsExecuted job old new task t u
       executed next =
           let past : state_after task (t.executed + 1)
           ≡ progress_past task.rule item s (calls_after task.verified flag call.rest call.ret outer) =
@@ -255,9 +227,9 @@ module _ (laws : Laws) (signatures : List Signature) (task : Task) (verified : I
             others = commits.others;
           }
 
-  can_execute : state_after task (t.executed + 1) ≡ progress_by task.rule (value_fault op (sources_of item s.stack))
-      (next_item call) s (calls_after task.verified flag call.rest call.ret outer) →
-      CanExecute job old task t op flag first second
+  can_execute : state_after task (t.executed + 1)
+      ≡ progress_by task.rule (value_fault op (sources_of item s.stack)) (next_item call) s
+      (calls_after task.verified flag call.rest call.ret outer) → CanExecute job old task t op flag first second
   can_execute next = record {
     two = two_results op;
     room = omega (arith, can.room, words_are);
@@ -270,25 +242,18 @@ pub executable : Laws → StepsExecute
 executable laws job old task t op flag first second flying verified tidy answered =
     let run = flying.run in
     let ready = laws.others_are_ready verified.0 task verified.1 t.executed run.state run.running flying.goes_on in
-    let same = asked_is task t.executed run.state ready.call ready.outer answered.question run.running ready.calls
-    answered.asked in
+    let same = asked_is _ _ _ _ _ _ run.running ready.calls answered.asked in
     let found = can_execute laws verified.0 task verified.1 job old t run.state run.running run.at run.holds
-    flying.goes_on
-    tidy ready.call ready.outer ready.calls first second
-    (subst (λ (q : Question). AreResults q first second) (sym same) answered.results) ready.next in
+    flying.goes_on tidy ready.call ready.outer ready.calls first second (rw same answered.results) ready.next in
     let item = (next_item ready.call).item in
     let op_is : op_of item ≡ op = ap (λ (q : Question). q.op) same ∙ sym answered.op_is in
     let flag_is : flag_of (question_of item run.state.stack) ≡ flag = ap flag_of same ∙ sym answered.flag_is in
-    subst (λ (o : Op). CanExecute job old task t o flag first second) op_is
-    (subst (λ (f : Bool). CanExecute job old task t (op_of item) f first second) flag_is found)
+    rw (← op_is) (rw (← flag_is) found)
 
 -- the instruction is executed if blocks have its results and the track went past it
 pub executed_past : {job : ℕ} {old new : JobBlocks} {task : Task} {t u : TrackState ℕ} {op : Op} {flag : Bool}
     {first second : List ℤ} {form : Rule} {ids : List ℕ} {held : ℕ} → CanExecute job old task t op flag first second →
-    HasSettled form job op first second t.cells ids old new →
-    held ≡ held_under task.rule job op t.cells old →
+    HasSettled form job op first second t.cells ids old new → held ≡ held_under task.rule job op t.cells old →
     Advances task.verified op flag ids (held + length first + length second) t u → IsExecuted job old new task t u
-executed_past {job} {old} {new} {task} {t} {u} {op} {flag} {first} {second} {form} {ids} can has held_is
-    advances =
-    can.executes form ids new u has
-    (subst (λ (h : ℕ). Advances task.verified op flag ids (h + length first + length second) t u) held_is advances)
+executed_past {job} {old} {new} {task} {t} {u} {op} {flag} {first} {second} {form} {ids} can has held_is advances =
+    can.executes form ids new u has (rw (← held_is) advances)

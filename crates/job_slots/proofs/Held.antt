@@ -1,6 +1,5 @@
 -- What holds of the blocks that hold a stack.
-use Rattle.std.proofs.Common.{◌≡◌, ℕ, ◌<◌, Bool, true, false, cond, eqb, List, [], ◌∷◌, map}
-use Rattle.std.proofs.Common.{zero, suc, refl, sym, ◌∙◌, ap, subst, arith}
+use Rattle.std.proofs.Common.{◌≡◌, ℕ, ◌<◌, true, false, cond, eqb, List, [], ◌∷◌, map, refl, sym, ◌∙◌, ap, arith}
 use Rattle.std.specs.Prelude.{All}
 use Rattle.std.proofs.lemmas.List.Elements.{All-nil, All-cons, All-head, All-tail}
 use Rattle.refcounts.specs.SharedState.{Slot, SharedState, empty_slot, slot_in, slot_at, occurrences, IsLive, AreLive}
@@ -13,25 +12,16 @@ use Rattle.job_slots.proofs.Holding.{named_here, named_more}
 seen_at : (job : ℕ) (slots : List Slot) (id : ℕ) →
     slot_in (map (slot_seen_by job) slots) id ≡ slot_seen_by job (slot_in slots id)
 seen_at job [] id = elim (eqb 0 job) as (λ b. empty_slot ≡ cond b empty_slot empty_slot) [ true ↦ refl | false ↦ refl ]
-seen_at job (slot ∷ slots) zero = refl
-seen_at job (slot ∷ slots) (suc id) = seen_at job slots id
+seen_at job (slot ∷ slots) id = grind (arith, (seen_at job slots))
 
 -- a block that an owner sees is there, with its words
 record IsSeen (memory : SharedState) (slot : Slot) (id : ℕ) : Type 0 where
   live : IsLive memory id
   same : slot ≡ slot_at memory id
 
-seen_if : (memory : SharedState) (id : ℕ) (b : Bool) → 0 < (cond b (slot_at memory id) empty_slot).count →
-    IsSeen memory (cond b (slot_at memory id) empty_slot) id
-seen_if memory id true h = record { live = h; same = refl }
-seen_if memory id false h = absurd (omega arith)
-
 seen : (job : ℕ) (memory : SharedState) (id : ℕ) → 0 < (slot_in (slots_seen_by job memory) id).count →
     IsSeen memory (slot_in (slots_seen_by job memory) id) id
-seen job memory id h =
-    let e = seen_at job memory.slots id in
-    subst (λ (s : Slot). IsSeen memory s id) (sym e)
-    (seen_if memory id (eqb (slot_at memory id).owner job) (subst (λ (s : Slot). 0 < s.count) e h))
+seen job memory id h = grind (arith, seen_at, slot_at)
 
 -- the blocks of cells that hold entries are there, with the entries' words
 pub record AreThere (memory : SharedState) (ids : List ℕ) (stack : List StackEntry) : Type 0 where
@@ -42,8 +32,7 @@ pub record AreThere (memory : SharedState) (ids : List ℕ) (stack : List StackE
 abbrev HasWords : ℕ → SharedState → Cell → Type 0
 HasWords job memory c = (slot_in (slots_seen_by job memory) c.id).words ≡ c.entry.value.words
 
-there : (job : ℕ) (memory : SharedState) (cells : List Cell) →
-    All (HasWords job memory) cells →
+there : (job : ℕ) (memory : SharedState) (cells : List Cell) → All (HasWords job memory) cells →
     ((id : ℕ) → 0 < occurrences id (ids_of cells) → 0 < (slot_in (slots_seen_by job memory) id).count) →
     AreThere memory (ids_of cells) (entries_of cells)
 there job memory [] words counts = record { live = All-nil (λ id. IsLive memory id); lists = refl }

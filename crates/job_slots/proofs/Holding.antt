@@ -1,7 +1,6 @@
 -- How many words and blocks the cells of a stack hold.
-use Rattle.std.proofs.Common.{◌≡◌, ◌≢◌, ℕ, zero, suc, ◌+◌, ◌<◌, ◌≤◌, Bool, true, false, cond, eqb, ltb, List}
-use Rattle.std.proofs.Common.{[], ◌∷◌, length}
-use Rattle.std.proofs.Common.{set, refl, sym, ◌∙◌, ap, inl, inr, arith}
+use Rattle.std.proofs.Common.{◌≡◌, ◌≢◌, ℕ, zero, suc, ◌+◌, ◌<◌, ◌≤◌, Bool, true, false, cond, eqb, ltb, List, [], ◌∷◌}
+use Rattle.std.proofs.Common.{length, set, refl, sym, ◌∙◌, ap, inl, inr, arith}
 use Rattle.std.specs.Prelude.{All, sum_by, map, ◌||◌}
 use Rattle.std.proofs.lemmas.Bool.{cases_eq, eq-eqb}
 use Rattle.std.proofs.lemmas.Bool.Decides.{nat_tests}
@@ -16,16 +15,7 @@ use Rattle.job_slots.specs.Holdings.{Cell, ids_of, entries_of, AreAlike, AreHeld
 
 -- no cell holds the empty stack
 pub none_held : (slots : List Slot) (ids : List ℕ) → HoldNothing slots ids → HoldStack slots ids []
-none_held slots ids h = record {
-  cells = [];
-  ids_are = h.no_cell;
-  entries_are = refl;
-  held = record {
-    words = All-nil (λ (c : Cell). (slot_in slots c.id).words ≡ c.entry.value.words);
-    counts = λ id. ap (λ (slot : Slot). slot.count) (h.no_block id);
-    alike = All-nil (λ (x : Cell). All (AreAlike x) []);
-  };
-}
+none_held slots ids h = grind (arith, All-nil, slot_in)
 
 -- ---- how often a block is named
 
@@ -37,12 +27,7 @@ named_here id ids =
     omega (arith, one)
 
 pub named_other : (id first : ℕ) (ids : List ℕ) → first ≢ id → occurrences id (first ∷ ids) ≡ occurrences id ids
-named_other id first ids ne =
-    let step : occurrences id (first ∷ ids) ≡ cond (eqb first id) 1 0 + occurrences id ids =
-    sum_by-cons (λ (other : ℕ). cond (eqb other id) 1 0) first ids in
-    let no : eqb first id ≡ false = grind (arith, nat_tests) in
-    let none : cond (eqb first id) 1 0 ≡ 0 = ap (λ (b : Bool). let n : ℕ = cond b 1 0 in n) no in
-    omega (arith, none)
+named_other id first ids ne = grind (arith, sum_by-cons)
 
 pub named_sum : (id first : ℕ) (ids : List ℕ) →
     occurrences id (first ∷ ids) ≡ occurrences id (first ∷ []) + occurrences id ids
@@ -121,20 +106,11 @@ sum_none measure (slot ∷ slots) none =
 pub sum_without : (measure : Slot → ℕ) → IsMeasure measure → (slots : List Slot) (id : ℕ) →
     sum_by measure (set slots id empty_slot) + measure (slot_in slots id) ≡ sum_by measure slots
 sum_without measure zero_is [] id = omega (arith, zero_is)
-sum_without measure zero_is (slot ∷ slots) zero =
-    omega (arith, zero_is, sum_by-cons measure slot slots, sum_by-cons measure empty_slot slots)
-sum_without measure zero_is (slot ∷ slots) (suc id) =
-    omega (
-      arith,
-      sum_by-cons measure slot slots,
-      sum_by-cons measure slot (set slots id empty_slot),
-      sum_without measure zero_is slots id,
-    )
+sum_without measure zero_is (slot ∷ slots) id = grind (arith, sum_by-cons, (sum_without measure zero_is slots))
 
 gone : (slots : List Slot) (id : ℕ) → slot_in (set slots id empty_slot) id ≡ empty_slot
 gone [] id = refl
-gone (slot ∷ slots) zero = refl
-gone (slot ∷ slots) (suc id) = gone slots id
+gone (slot ∷ slots) id = grind (arith, (gone slots))
 
 -- a block that cells don't name measures nothing
 abbrev pub AreOnlyOf : (Slot → ℕ) → List Slot → List Cell → Type 0
@@ -143,20 +119,12 @@ AreOnlyOf measure slots cells =
 
 only_without : (measure : Slot → ℕ) → IsMeasure measure → (slots : List Slot) (c : Cell) (cells : List Cell) →
     AreOnlyOf measure slots (c ∷ cells) → AreOnlyOf measure (set slots c.id empty_slot) cells
-only_without measure zero_is slots c cells only id none = elim (cases_eq id c.id) [
-  | inl e ↦
-      ap (λ k. measure (slot_in (set slots c.id empty_slot) k)) e ∙ (ap measure (gone slots c.id) ∙ zero_is)
-  | inr ne ↦
-      ap measure (get_or-set_other slots c.id id empty_slot empty_slot ne)
-      ∙ only id (named_other id c.id (ids_of cells) (λ e. ne (sym e)) ∙ none)
-]
+only_without measure zero_is slots c cells only id none =
+    grind (arith, cases_eq, slot_in, gone, get_or-set_other, named_other)
 
 only_again : (measure : Slot → ℕ) (slots : List Slot) (c : Cell) (cells : List Cell) →
     0 < occurrences c.id (ids_of cells) → AreOnlyOf measure slots (c ∷ cells) → AreOnlyOf measure slots cells
-only_again measure slots c cells more only id none = elim (cases_eq id c.id) [
-  | inl e ↦ absurd (omega (arith, ap (λ k. occurrences k (ids_of cells)) e))
-  | inr ne ↦ only id (named_other id c.id (ids_of cells) (λ e. ne (sym e)) ∙ none)
-]
+only_again measure slots c cells more only id none = grind (arith, cases_eq, named_other)
 
 -- ---- the words
 
@@ -171,9 +139,8 @@ long_without : (slots : List Slot) (id : ℕ) (cells : List Cell) → occurrence
     All (IsLong slots) cells → All (IsLong (set slots id empty_slot)) cells
 long_without slots id [] none words = All-nil (IsLong (set slots id empty_slot))
 long_without slots id (x ∷ xs) none words =
-    let other : x.id ≢ id = (λ e. absurd (let same : occurrences id (ids_of (x ∷ xs)) ≡ occurrences id
-    (id ∷ ids_of xs) =
-    ap (λ (k : ℕ). occurrences id (k ∷ ids_of xs)) e in omega (arith, same, named_here id (ids_of xs)))) in
+    let other : x.id ≢ id = (λ e. absurd (let same : occurrences id (ids_of (x ∷ xs)) ≡ occurrences id (id ∷ ids_of xs)
+    = ap (λ (k : ℕ). occurrences id (k ∷ ids_of xs)) e in omega (arith, same, named_here id (ids_of xs)))) in
     let none_later : occurrences id (ids_of xs) ≡ 0 = omega (arith, named_more id x.id (ids_of xs)) in
     All-cons (IsLong (set slots id empty_slot)) x xs
     (ap long (get_or-set_other slots id x.id empty_slot empty_slot other) ∙ All-head (IsLong slots) x xs words)
@@ -182,17 +149,15 @@ long_without slots id (x ∷ xs) none words =
 held_by_tag : (slots : List Slot) (c : Cell) (cells : List Cell) → All (AreAlike c) cells →
     All (IsLong slots) (c ∷ cells) → AreOnlyOf long slots (c ∷ cells) →
     ((fewer : List Slot) → All (IsLong fewer) cells → AreOnlyOf long fewer cells →
-    sum_by long fewer ≡ held_words (entries_of cells)) →
-    (b : Bool) → has_tag c.entry.tag (entries_of cells) ≡ b →
+    sum_by long fewer ≡ held_words (entries_of cells)) → (b : Bool) → has_tag c.entry.tag (entries_of cells) ≡ b →
     sum_by long slots ≡ cond b 0 (length c.entry.value.words) + held_words (entries_of cells)
 held_by_tag slots c cells alike words only later true found =
     let rest = later slots (All-tail (IsLong slots) c cells words)
     (only_again long slots c cells (named_where_tagged c cells alike found) only) in
     omega (arith, rest)
 held_by_tag slots c cells alike words only later false none =
-    let apart = unnamed_where_untagged c cells alike none in
-    let rest = later (set slots c.id empty_slot)
-    (long_without slots c.id cells apart (All-tail (IsLong slots) c cells words))
+    let apart = unnamed_where_untagged c _ alike none in
+    let rest = later (set slots c.id empty_slot) (long_without _ _ _ apart (All-tail (IsLong slots) c cells words))
     (only_without long refl slots c cells only) in
     let here = All-head (IsLong slots) c cells words in
     omega (arith, rest, here, sum_without long refl slots c.id)
@@ -201,14 +166,12 @@ abbrev AreTagged : List Cell → Type 0
 AreTagged cells = All (λ x. All (AreAlike x) cells) cells
 
 tagged_head : (c : Cell) (cells : List Cell) → AreTagged (c ∷ cells) → All (AreAlike c) cells
-tagged_head c cells tagged =
-    All-tail (AreAlike c) c cells (All-head (λ x. All (AreAlike x) (c ∷ cells)) c cells tagged)
+tagged_head c cells tagged = All-tail (AreAlike c) c cells (All-head (λ x. All (AreAlike x) (c ∷ cells)) c cells tagged)
 
 tagged_tail : (c : Cell) (cells : List Cell) → AreTagged (c ∷ cells) → AreTagged cells
 tagged_tail c cells tagged =
     All-weaker (λ x. All (AreAlike x) (c ∷ cells)) (λ x. All (AreAlike x) cells)
-    (λ x alike. All-tail (AreAlike x) c cells alike) cells
-    (All-tail (λ x. All (AreAlike x) (c ∷ cells)) c cells tagged)
+    (λ x alike. All-tail (AreAlike x) c cells alike) cells (All-tail (λ x. All (AreAlike x) (c ∷ cells)) c cells tagged)
 
 held_from : (cells : List Cell) (slots : List Slot) → AreTagged cells → All (IsLong slots) cells →
     AreOnlyOf long slots cells → sum_by long slots ≡ held_words (entries_of cells)
@@ -224,10 +187,7 @@ AreTidy slots = (id : ℕ) → (slot_in slots id).count ≡ 0 → slot_in slots 
 -- the blocks of cells have the words of the stack that the cells hold
 pub held_is_stack : (slots : List Slot) (cells : List Cell) → AreHeld slots cells → AreTidy slots →
     words_in slots ≡ held_words (entries_of cells)
-held_is_stack slots cells held tidy =
-    held_from cells slots held.alike
-    (All-weaker (λ c. (slot_in slots c.id).words ≡ c.entry.value.words) (IsLong slots) (λ c same. ap length same)
-    cells held.words) (λ id none. ap long (tidy id (held.counts id ∙ none)))
+held_is_stack slots cells held tidy = grind (arith, held_from, All-weaker, slot_in, IsLong, long)
 
 -- ---- the blocks
 
@@ -235,8 +195,7 @@ abbrev one_where_named : Slot → ℕ
 one_where_named slot = cond (ltb 0 slot.count) 1 0
 
 at_most_one : (b : Bool) → ◌≤◌ (cond b 1 0) 1
-at_most_one true = omega arith
-at_most_one false = omega arith
+at_most_one b = grind arith
 
 few_from : (cells : List Cell) (slots : List Slot) → AreOnlyOf one_where_named slots cells →
     sum_by one_where_named slots ≤ length cells
@@ -256,25 +215,15 @@ few_blocks slots cells held =
 
 -- ---- a job's own blocks
 
-seen_tidy : (job : ℕ) (slot : Slot) → (slot.count ≡ 0 → slot ≡ empty_slot) → (b : Bool) →
-    (cond b slot empty_slot).count ≡ 0 → cond b slot empty_slot ≡ empty_slot
-seen_tidy job slot tidy true none = tidy none
-seen_tidy job slot tidy false none = refl
-
 -- a slot as the job sees it
 pub own_slot : (job : ℕ) (slots : List Slot) (id : ℕ) →
     slot_in (map (slot_seen_by job) slots) id ≡ slot_seen_by job (slot_in slots id)
-own_slot job [] id =
-    elim (eqb 0 job) as (λ b. empty_slot ≡ cond b empty_slot empty_slot) [ true ↦ refl | false ↦ refl ]
-own_slot job (slot ∷ slots) zero = refl
-own_slot job (slot ∷ slots) (suc id) = own_slot job slots id
+own_slot job [] id = grind arith
+own_slot job (slot ∷ slots) id = grind (arith, (own_slot job slots))
 
 -- a job's own blocks are tidy if the memory is
 pub own_are_tidy : (job : ℕ) (memory : SharedState) → IsTidy memory → AreTidy (slots_seen_by job memory)
-own_are_tidy job memory tidy id none =
-    own_slot job memory.slots id
-    ∙ seen_tidy job (slot_at memory id) (tidy id) (eqb (slot_at memory id).owner job)
-    (ap (λ (slot : Slot). slot.count) (sym (own_slot job memory.slots id)) ∙ none)
+own_are_tidy job memory tidy id none = grind (arith, own_slot, slot_at)
 
 -- ---- no block
 

@@ -1,6 +1,5 @@
 -- What is left of a job's blocks once all its cells are let go.
-use Rattle.std.proofs.Common.{◌≡◌, ℕ, ◌≤◌, Bool, true, false, cond, eqb, List, [], refl, sym, ◌∙◌, ap, subst}
-use Rattle.std.proofs.Common.{inl, inr, arith}
+use Rattle.std.proofs.Common.{◌≡◌, ℕ, ◌≤◌, Bool, true, cond, eqb, List, [], sym, ◌∙◌, ap, subst, inl, inr, arith}
 use Rattle.std.specs.Prelude.{reverse}
 use Rattle.std.proofs.lemmas.Bool.{cases_lt}
 use Rattle.std.proofs.lemmas.Bool.Decides.{nat_tests}
@@ -15,8 +14,7 @@ use Rattle.job_slots.specs.Holdings.{HoldSomeStack, HoldNothing}
 use Rattle.job_slots.proofs.Holding.{own_slot, own_are_tidy}
 
 named-reverse : (id : ℕ) (ids : List ℕ) → occurrences id (reverse ids) ≡ occurrences id ids
-named-reverse id ids =
-    sum_by-IsPermutation (λ (other : ℕ). cond (eqb other id) 1 0) ids (reverse ids) (IsPermutation-reverse ids)
+named-reverse id ids = grind (arith, sum_by-IsPermutation, IsPermutation-reverse)
 
 -- the cells name each block as often as its count says
 named_exactly : (job : ℕ) (blocks : JobBlocks) (ids : List ℕ) → HoldSomeStack (own_slots job blocks) ids → (id : ℕ) →
@@ -30,8 +28,7 @@ pub own_all : (job : ℕ) (blocks : JobBlocks) (ids : List ℕ) → HoldSomeStac
 own_all job blocks ids h id = omega (arith, named_exactly job blocks ids h id)
 
 seen_count : (slot : Slot) (b : Bool) → (cond b slot empty_slot).count ≤ slot.count
-seen_count slot true = omega arith
-seen_count slot false = omega arith
+seen_count slot b = grind arith
 
 pub own_named : (job : ℕ) (memory : SharedState) (ids : List ℕ) →
     ((id : ℕ) → occurrences id ids ≤ (slot_in (slots_seen_by job memory) id).count) → AreNamed memory ids
@@ -64,36 +61,23 @@ mine_is_gone counted kept job memory ids exact id mine =
     ]
 
 seen_none : (slot : Slot) (b : Bool) → (b ≡ true → slot.count ≡ 0) → (cond b slot empty_slot).count ≡ 0
-seen_none slot true none = none refl
-seen_none slot false none = refl
-
-is_owner : (owner job : ℕ) → eqb owner job ≡ true → owner ≡ job
-is_owner owner job e = grind (arith, nat_tests)
+seen_none slot b none = grind arith
 
 none_left : ReleasesAreCounted → ReleasesKeepBlocks → (job : ℕ) (memory : SharedState) (ids : List ℕ) →
     ((id : ℕ) → (slot_in (slots_seen_by job memory) id).count ≡ occurrences id ids) → (id : ℕ) →
     (slot_in (slots_seen_by job (state_after_releases memory ids)) id).count ≡ 0
-none_left counted kept job memory ids exact id =
-    let slot : Slot = slot_at (state_after_releases memory ids) id in
-    ap (λ (s : Slot). s.count) (own_slot job (state_after_releases memory ids).slots id)
-    ∙ seen_none slot (eqb slot.owner job)
-    (λ e. mine_is_gone counted kept job memory ids exact id (is_owner slot.owner job e))
+none_left counted kept job memory ids exact id = grind (arith, slot_at, own_slot, seen_none, mine_is_gone)
 
 -- the job has no block once all its cells are let go
 pub all_gone : ReleasesAreCounted → ReleasesKeepBlocks → (job : ℕ) (blocks : JobBlocks) (ids : List ℕ) →
     HoldSomeStack (own_slots job blocks) ids → IsTidy (state_after_releases blocks.memory (reverse ids)) →
     HoldNothing (slots_seen_by job (state_after_releases blocks.memory (reverse ids))) []
-all_gone counted kept job blocks ids h tidy = record {
-  no_cell = refl;
-  no_block = λ id. own_are_tidy job (state_after_releases blocks.memory (reverse ids)) tidy id
-      (none_left counted kept job blocks.memory (reverse ids) (named_exactly job blocks ids h) id);
-}
+all_gone counted kept job blocks ids h tidy = grind (arith, own_are_tidy, none_left, named_exactly)
 
 -- the cells as they are released, from the bottom up
 pub own_released : (job : ℕ) (blocks : JobBlocks) (ids gone : List ℕ) → HoldSomeStack (own_slots job blocks) ids →
     gone ≡ reverse ids → AreOwn job blocks gone
-own_released job blocks ids gone h is = subst (λ (list : List ℕ). AreOwn job blocks list) (sym is)
-    (own_all job blocks ids h)
+own_released job blocks ids gone h is = grind (arith, own_all)
 
 -- the job has let go of all its cells, and nothing else changed
 pub record HasLetGo (job : ℕ) (old new : JobBlocks) : Type 0 where
@@ -101,8 +85,8 @@ pub record HasLetGo (job : ℕ) (old new : JobBlocks) : Type 0 where
   pub others : ChangesOnlyOf job old new
   pub grants : new.grants ≡ old.grants
 
-pub has_let_go : ReleasesAreCounted → ReleasesKeepBlocks → ReleasesChangeOnlyTheirJob → (job : ℕ) (old new : JobBlocks)
-    (ids gone : List ℕ) → HoldSomeStack (own_slots job old) ids → gone ≡ reverse ids →
+pub has_let_go : ReleasesAreCounted → ReleasesKeepBlocks → ReleasesChangeOnlyTheirJob →
+    (job : ℕ) (old new : JobBlocks) (ids gone : List ℕ) → HoldSomeStack (own_slots job old) ids → gone ≡ reverse ids →
     new ≡ with_memory old (state_after_releases old.memory gone) → IsTidy new.memory → HasLetGo job old new
 has_let_go counted kept only job old new ids gone h gone_is new_is tidy =
     let is : new ≡ with_memory old (state_after_releases old.memory (reverse ids)) =

@@ -38,16 +38,14 @@ module _ {A B : Type 0} (f : A → B) where
       let below = drop lower (drop upper xs) in
       let moved : map f (entries_after_move motion low up)
       ≡ entries_after_move motion (top_entries lower (drop upper (map f xs))) (top_entries upper (map f xs)) =
-      map-moved motion low up
-      ∙ (ap (λ l. entries_after_move motion l (map f up)) (map-lower lower upper xs)
+      map-moved motion low up ∙ (ap (λ l. entries_after_move motion l (map f up)) (map-lower lower upper xs)
       ∙ ap (λ u. entries_after_move motion (top_entries lower (drop upper (map f xs))) u) (map-top upper xs)) in
       map-append f (reverse (entries_after_move motion low up)) below
-      ∙ both_ends _ _ _ _
-      (map-reverse f (entries_after_move motion low up) ∙ ap (λ (ys : List B). reverse ys) moved)
+      ∙ both_ends _ _ _ _ (map-reverse f (entries_after_move motion low up) ∙ ap (λ (ys : List B). reverse ys) moved)
       (sym (drop-map f lower (drop upper xs)) ∙ ap (λ (ys : List B). drop lower ys) (sym (drop-map f upper xs)))
 
-  map-pushed : (n : ℕ) (news xs : List A) →
-      map f (reverse news ++ drop n xs) ≡ reverse (map f news) ++ drop n (map f xs)
+  map-pushed : (n : ℕ) (news xs : List A) → map f (reverse news ++ drop n xs)
+      ≡ reverse (map f news) ++ drop n (map f xs)
   map-pushed n news xs =
       map-append f (reverse news) (drop n xs) ∙ both_ends _ _ _ _ (map-reverse f news) (sym (drop-map f n xs))
 
@@ -70,15 +68,13 @@ All-moved P Copy lower upper l u = All-append P lower (upper ++ lower) l (All-ap
 All-moved P Pop lower upper l u = u
 All-moved P MoveToTop lower upper l u = All-append P upper lower u l
 
-pub All-move : {E : Type 0} (P : E → Type 0) (motion : StackMove) (lower upper : ℕ) (stack : List E) →
-    All P stack → All P (stack_after_move motion lower upper stack)
+pub All-move : {E : Type 0} (P : E → Type 0) (motion : StackMove) (lower upper : ℕ) (stack : List E) → All P stack →
+    All P (stack_after_move motion lower upper stack)
 All-move P motion lower upper stack all =
     let under : All P (drop upper stack) = All-drop P upper stack all in
-    All-append P (reverse
-    (entries_after_move motion (top_entries lower (drop upper stack)) (top_entries upper stack)))
-    (drop lower (drop upper stack))
-    (All-reverse P (entries_after_move motion (top_entries lower (drop upper stack)) (top_entries upper stack))
+    All-append P (reverse (entries_after_move motion (top_entries lower (drop upper stack)) (top_entries upper stack)))
+    (drop lower (drop upper stack)) (All-reverse P
+    (entries_after_move motion (top_entries lower (drop upper stack)) (top_entries upper stack))
     (All-moved P motion (top_entries lower (drop upper stack)) (top_entries upper stack)
     (All-reverse P (take lower (drop upper stack)) (All-take P lower (drop upper stack) under))
-    (All-reverse P (take upper stack) (All-take P upper stack all))))
-    (All-drop P lower (drop upper stack) under)
+    (All-reverse P (take upper stack) (All-take P upper stack all)))) (All-drop P lower (drop upper stack) under)

@@ -1,16 +1,15 @@
 -- The next instruction of a job, if it has no operands.
-use Rattle.std.proofs.Common.{◌≡◌, ℕ, ℤ, ◌+◌, ◌≤◌, Bool, true, ltb, List, [], ◌∷◌, drop, length, Option, Some}
-use Rattle.std.proofs.Common.{None, refl, sym, ◌∙◌, ap, subst, arith}
+use Rattle.std.proofs.Common.{◌≡◌, ℕ, ℤ, ◌+◌, ◌≤◌, Bool, true, ltb, List, [], ◌∷◌, length, Option, None, refl, sym, ◌∙◌}
+use Rattle.std.proofs.Common.{ap, subst, arith}
 use Rattle.std.specs.Prelude.{is_some}
-use Rattle.std.proofs.lemmas.Bool.Decides.{nat_tests}
 use Rattle.vcode_base.specs.declared.fault.DataFault.{DataFault}
 use Rattle.vcode_base.specs.declared.fault.MemoryFault.{MemoryFault}
-use Rattle.vcode_base.specs.declared.instr.Instr.TheVariants.{Const, Elementwise, Segmented, If, Move, Call, Return}
+use Rattle.vcode_base.specs.declared.instr.Instr.TheVariants.{Const}
 use Rattle.vcode_base.specs.declared.limits.Limits.{Limits}
 use Rattle.vcode_base.specs.declared.op.Op.{Op}
 use Rattle.vcode_base.specs.declared.op.Op.TheVariants as op
 use Rattle.vcode_base.specs.declared.rule.Rule.{Rule}
-use Rattle.vcode_base.specs.declared.rule.Rule.TheVariants.{First, Second}
+use Rattle.vcode_base.specs.declared.rule.Rule.TheVariants.{First}
 use Rattle.vcode_base.specs.Instructions.{op_of}
 use Rattle.vcode_base.specs.Meaning.{shape, need, value_fault, result_of, second_result_of}
 use Rattle.vcode_reader.specs.Pools.{list_in}
@@ -52,68 +51,28 @@ record IsPlain (o : Op) (list : List ℤ) : Type 0 where
 
 plain : (item : Item) → HasNoOperands (op_of item) → IsPlain (op_of item) (list_in item)
 unfolding shape need value_fault result_of second_result_of
-plain (Const k list) none = record {
-  no_operands = refl;
-  shaped = refl;
-  needs = refl;
-  results = record { no_fault = refl; first_result = refl; second_result = refl };
-  flag_is = refl;
-}
-plain (Elementwise e) none = absurd none
-plain (Segmented s) none = absurd none
-plain If none = absurd none
-plain (Move motion lower upper) none = record {
-  no_operands = refl;
-  shaped = refl;
-  needs = refl;
-  results = record { no_fault = refl; first_result = refl; second_result = refl };
-  flag_is = refl;
-}
-plain (Call name) none = record {
-  no_operands = refl;
-  shaped = refl;
-  needs = refl;
-  results = record { no_fault = refl; first_result = refl; second_result = refl };
-  flag_is = refl;
-}
-plain Return none = record {
-  no_operands = refl;
-  shaped = refl;
-  needs = refl;
-  results = record { no_fault = refl; first_result = refl; second_result = refl };
-  flag_is = refl;
-}
+plain item none = grind arith
 
 read_alone : (item : Item) (stack : List StackEntry) → HasNoOperands (op_of item) →
     sources_of item stack ≡ sources_by (op_of item) (list_in item)
-read_alone (Const k list) stack none = refl
-read_alone (Elementwise e) stack none = absurd none
-read_alone (Segmented s) stack none = absurd none
-read_alone If stack none = absurd none
-read_alone (Move motion lower upper) stack none = refl
-read_alone (Call name) stack none = refl
-read_alone Return stack none = refl
+read_alone item stack none = grind arith
 
 -- ---- words
 
 held_alone : (rule : Rule) (item : Item) (s : State) → operand_count (op_of item) ≡ 0 →
     held_at rule item s ≡ stack_words s.stack
-held_alone First item s none = refl
-held_alone Second item s none = ap (λ (n : ℕ). stack_words (drop n s.stack)) none
+held_alone rule item s none = grind arith
 
 counts_by : (list : List ℤ) (own stack under peak : ℕ) → own ≡ stack → under ≡ stack → stack ≤ peak →
     CountsAs (under + length list) peak (words_with list own)
-counts_by [] own stack under peak own_is under_is within = omega arith
-counts_by (x ∷ xs) own stack under peak own_is under_is within = omega arith
+counts_by list own stack under peak own_is under_is within = grind arith
 
 same_test : (list : List ℤ) (own stack needed limit : ℕ) → own ≡ stack → needed ≡ length list → stack ≤ limit →
     ltb limit (words_with list own) ≡ ltb limit (stack + needed)
-same_test [] own stack needed limit own_is needed_is within = grind (arith, nat_tests)
-same_test (x ∷ xs) own stack needed limit own_is needed_is within = grind (arith, nat_tests)
+same_test list own stack needed limit own_is needed_is within = grind arith
 
 some_ends : (line : ℕ) (o : Option MemoryFault) → is_some (ending_by line None o) ≡ is_some o
-some_ends line None = refl
-some_ends line (Some fault) = refl
+some_ends line o = grind arith
 
 none_ends : (line : ℕ) (o : Option MemoryFault) → o ≡ None → ending_by line None o ≡ None
 none_ends line o e = ap (ending_by line None) e
@@ -139,23 +98,16 @@ module _ (begins : StepsCanBegin ℕ) (number : ℕ) (blocks : JobBlocks) (task 
   none_of = subst HasNoOperands op_is none
 
   is_plain : IsPlain o list
-  is_plain =
-      subst (λ (p : Op). IsPlain p list) (sym op_is)
-      (subst (λ (l : List ℤ). IsPlain (op_of item) l) (sym list_is) (plain item none_of))
+  is_plain = grind (arith, op_is, item, list_is, plain, none_of)
 
   asked : question_of item run.state.stack ≡ question_by o (sources_by o list)
   asked = cc (read_alone item run.state.stack none_of, op_is, list_is)
 
   is_next : IsNext task t.executed o (next_item can.call).number (sources_by o list)
-  is_next = record {
-    question =
-        question_when task t.executed run.state can.call can.outer run.running can.calls ∙ ap (λ q. Some q) asked;
-    line_is = line_when task t.executed run.state can.call can.outer run.running can.calls;
-  }
+  is_next = grind (arith, question_when, asked, line_when)
 
   -- its results are its list, and no second one
-  pub answered : (flag : Bool) → flag ≡ flag_of (question_by o (list ∷ [])) →
-      IsAnswered task t.executed o flag list []
+  pub answered : (flag : Bool) → flag ≡ flag_of (question_by o (list ∷ [])) → IsAnswered task t.executed o flag list []
   answered flag flag_is = record {
     question = question_by o (sources_by o list);
     asked = is_next.question;
@@ -180,9 +132,7 @@ module _ (begins : StepsCanBegin ℕ) (number : ℕ) (blocks : JobBlocks) (task 
     held_own = (counted First number blocks item run.state t.cells run.holds tidy).held
 
     held_any : held_under task.rule number o t.cells blocks ≡ held
-    held_any =
-        ap (λ (p : Op). held_under task.rule number p t.cells blocks) op_is
-        ∙ ((counted task.rule number blocks item run.state t.cells run.holds tidy).held ∙ held_here)
+    held_any = grind (arith, op_is, item, held, held_here)
 
     within : held ≤ t.limits.words
     within = let same = ap (λ (l : Limits). l.words) run.at.limits in omega (arith, reached.words, same)
@@ -192,9 +142,7 @@ module _ (begins : StepsCanBegin ℕ) (number : ℕ) (blocks : JobBlocks) (task 
 
     pub counts : CountsAs (held_under task.rule number o t.cells blocks + length list) t.peak
         (words_with list (held_words number blocks))
-    counts =
-        counts_by list (held_words number blocks) held (held_under task.rule number o t.cells blocks) t.peak held_own
-        held_any (omega (arith, reached.held, run.at.peak))
+    counts = counts_by _ _ _ _ _ held_own held_any (omega (arith, reached.held, run.at.peak))
 
     module _ (unspent : t.executed ≡ t.limits.budget → ⊥) where
       abbrev fault : Option MemoryFault
@@ -207,21 +155,15 @@ module _ (begins : StepsCanBegin ℕ) (number : ℕ) (blocks : JobBlocks) (task 
 
       same_fault : memory_fault t.limits o (held + need_words (question_by o (sources_by o list)))
           (depth_after o (length t.cells)) (length t.frames) ≡ fault
-      same_fault =
-          sym (same_by t.limits o (words_with list (held_words number blocks))
-          (held + need_words (question_by o (sources_by o list))) (depth_after o (length t.cells)) (length t.frames)
-          (same_test list (held_words number blocks) held (need_words (question_by o (sources_by o list)))
-          t.limits.words held_own needed within))
+      same_fault = sym (same_by _ o _ _ _ _ (same_test _ _ _ _ _ held_own needed within))
 
       -- it ends the job exactly if its words pass a limit
       ends : early_end_at task t.executed ≡ ending_by (next_item can.call).number None fault
       ends =
           early_end_is task t run.state o (next_item can.call).number (sources_by o list) held run.running run.at can
-          is_next (sym held_here) unspent
-          ∙ (ap (λ (shaped : Option DataFault). ending_by (next_item can.call).number shaped
-          (memory_fault t.limits o (held + need_words (question_by o (sources_by o list)))
-          (depth_after o (length t.cells)) (length t.frames))) is_plain.shaped
-          ∙ ap (ending_by (next_item can.call).number None) same_fault)
+          is_next (sym held_here) unspent ∙ (ap (λ (shaped : Option DataFault). ending_by (next_item can.call).number
+          shaped (memory_fault t.limits o (held + need_words (question_by o (sources_by o list))) (depth_after o (length
+          t.cells)) (length t.frames))) is_plain.shaped ∙ ap (ending_by (next_item can.call).number None) same_fault)
 
       pub ends_by_fault : is_some fault ≡ true → is_some (early_end_at task t.executed) ≡ true
       ends_by_fault is = ap is_some ends ∙ (some_ends (next_item can.call).number fault ∙ is)

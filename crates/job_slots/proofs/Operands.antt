@@ -1,25 +1,20 @@
 -- The words of the operands that an instruction takes, by their places.
-use Rattle.std.proofs.Common.{◌≡◌, ℕ, ℤ, ◌-◌, ◌≤◌, List, [], ◌∷◌, ◌++◌, length, map, take, drop, reverse, refl}
-use Rattle.std.proofs.Common.{sym, ◌∙◌, ap, arith, length-drop}
-use Rattle.std.specs.Prelude.{All}
+use Rattle.std.proofs.Common.{◌≡◌, ℕ, ℤ, ◌-◌, ◌≤◌, List, [], ◌∷◌, ◌++◌, length, map, take, drop, reverse, refl, sym}
+use Rattle.std.proofs.Common.{◌∙◌, ap, arith, length-drop}
 use Rattle.std.specs.Borrow.{Bor}
 use Rattle.std.proofs.lemmas.List.{take-map, length-reverse, reverse-append, take-append-drop, drop_at}
-use Rattle.std.proofs.lemmas.List.Elements.{All-take}
 use Rattle.vcode_base.specs.declared.op.Op.{Op}
-use Rattle.vcode_base.specs.declared.op.Op.TheVariants.{Const, Elementwise, Segmented, If, Move, Call, Return}
 use Rattle.vcode_base.specs.Meaning.{operand}
 use Rattle.vcode_base.specs.Operands.{contents}
 use Rattle.job_steps.specs.Motions.{operand_count, top_entries}
 use Rattle.job_steps.specs.Tracks.{IsDeep}
 use Rattle.job_slots.proofs.Moves.{map-top}
-use Rattle.job_slots.proofs.Reversed.{All-reverse}
 
 -- the values at five places
 abbrev five_of : List (List ℤ) → List (List ℤ)
 five_of ws = operand ws 0 ∷ operand ws 1 ∷ operand ws 2 ∷ operand ws 3 ∷ operand ws 4 ∷ []
 
-five : (ws : List (List ℤ)) → length ws ≤ 5 →
-    take (length ws) (five_of ws) ≡ ws
+five : (ws : List (List ℤ)) → length ws ≤ 5 → take (length ws) (five_of ws) ≡ ws
 five [] h = refl
 five (a ∷ []) h = refl
 five (a ∷ b ∷ []) h = refl
@@ -35,20 +30,13 @@ pub lent : (n : ℕ) (ws : List (List ℤ)) (a b c d e : Bor (List ℤ)) → n �
 lent n ws a b c d e long few first second third fourth fifth =
     let shown : contents (a ∷ b ∷ c ∷ d ∷ e ∷ []) ≡ five_of ws = cc in
     sym (take-map (λ (r : Bor (List ℤ)). r.now) n (a ∷ b ∷ c ∷ d ∷ e ∷ []))
-    ∙ (ap (take n) shown ∙ (ap (λ k. take k (five_of ws)) long
-    ∙ five ws few))
+    ∙ (ap (take n) shown ∙ (ap (λ k. take k (five_of ws)) long ∙ five ws few))
 
 pub few_operands : (op : Op) → operand_count op ≤ 5
 few_operands op = grind arith
 
 pub deep_enough : (op : Op) (depth : ℕ) → IsDeep op depth → operand_count op ≤ depth
-deep_enough (Const k) depth h = h
-deep_enough (Elementwise op) depth h = h
-deep_enough (Segmented op) depth h = h
-deep_enough If depth h = h
-deep_enough (Move motion lower upper) depth h = omega arith
-deep_enough Call depth h = h
-deep_enough Return depth h = h
+deep_enough op depth h = grind arith
 
 -- ---- the top of a stack, from the bottom up
 
@@ -57,15 +45,12 @@ pub same_top : {E F G : Type 0} (f : E → G) (g : F → G) (n : ℕ) (xs : List
     map f (top_entries n xs) ≡ map g (top_entries n ys)
 same_top f g n xs ys same = map-top f n xs ∙ (ap (top_entries n) same ∙ sym (map-top g n ys))
 
-pub All-top : {E : Type 0} (P : E → Type 0) (n : ℕ) (xs : List E) → All P xs → All P (top_entries n xs)
-All-top P n xs all = All-reverse P (take n xs) (All-take P n xs all)
-
 -- the last of a list that has the top last
 pub last_are_top : {E : Type 0} (n : ℕ) (xs : List E) → n ≤ length xs →
     drop (length xs - n) (reverse xs) ≡ top_entries n xs
 last_are_top n xs h =
-    let whole : reverse xs ≡ reverse (drop n xs) ++ top_entries n xs =
-    ap reverse (sym (take-append-drop n xs)) ∙ reverse-append (take n xs) (drop n xs) in
+    let whole : reverse xs ≡ reverse (drop n xs) ++ top_entries n xs = ap reverse (sym (take-append-drop n xs))
+    ∙ reverse-append (take n xs) (drop n xs) in
     let long : length (reverse (drop n xs)) ≡ length xs - n =
     omega (arith, length-reverse (drop n xs), length-drop n xs) in
     ap (drop (length xs - n)) whole ∙ drop_at (reverse (drop n xs)) (top_entries n xs) (length xs - n) long

@@ -1,33 +1,29 @@
 -- A block that is written over in the place of an instruction's operands.
-use Rattle.std.proofs.Common.{◌≡◌, ◌≢◌, ◌∙◌, ℕ, ℤ, ◌+◌, ◌-◌, ◌<◌, ◌≤◌, Bool, cond, List, [], ◌∷◌, length, map}
-use Rattle.std.proofs.Common.{refl, sym, ap, subst, inl, inr, arith, get_or}
+use Rattle.std.proofs.Common.{◌≡◌, ◌≢◌, ◌∙◌, ℕ, ℤ, ◌+◌, ◌-◌, ◌<◌, ◌≤◌, List, [], ◌∷◌, length, map, refl, sym, ap, subst}
+use Rattle.std.proofs.Common.{inl, inr, arith, get_or}
 use Rattle.std.proofs.lemmas.Bool.{cases_eq, le-leb}
 use Rattle.std.proofs.lemmas.Bool.Decides.{nat_tests}
 use Rattle.std.proofs.lemmas.List.{set-set, get_or-set_same, get_or_default, length-set}
-use Rattle.std.specs.Prelude.{All, Option, Some}
+use Rattle.std.specs.Prelude.{All, Some}
 use Rattle.std.proofs.lemmas.List.Elements.{All-map, All-cons, All-head, All-tail}
 use Rattle.refcounts.specs.SharedState.{Slot, SharedState, empty_slot, slot_in, slot_at, with_slot, new_slot}
 use Rattle.refcounts.specs.SharedState.{lowered_slot, occurrences}
-use Rattle.job_memory.specs.JobBlocks.{JobBlocks, AreOwn, ChangesOnlyOf, grant_of, own_slots}
-use Rattle.job_memory.specs.JobBlocks.{with_block, with_memory}
+use Rattle.job_memory.specs.JobBlocks.{JobBlocks, AreOwn, ChangesOnlyOf, grant_of, own_slots, with_block, with_memory}
 use Rattle.job_memory.specs.Laws.{ReleasesChangeOnlyTheirJob, BlocksChangeOnlyTheirJob, ChangesJoin}
 use Rattle.job_slots.specs.Commits.{with_releases}
 use Rattle.job_slots.specs.Holdings.{Cell, ids_of, entries_of, AreAlike, HoldSomeStack}
 use Rattle.job_slots.specs.InPlace.{KeepsReferences, with_third}
-use Rattle.job_slots.specs.Slots.{SlotState, IsActive, MayEnd, Shows, ShowsAs, grant_by}
-use Rattle.job_slots.specs.declared.status.Status.{Status}
+use Rattle.job_slots.specs.Slots.{SlotState, IsActive, MayEnd, Shows}
 use Rattle.job_slots.specs.declared.status.Status.TheVariants as status
-use Rattle.job_steps.specs.States.{Task, Vector}
-use Rattle.job_steps.specs.Tracks.{TrackState}
-use Rattle.vcode_base.specs.declared.outcome.Outcome.{Outcome}
+use Rattle.job_steps.specs.States.{Task}
 use Rattle.job_slots.proofs.Exchanges.{named_at}
 use Rattle.job_slots.proofs.Holding.{named_here, named_sum}
 use Rattle.job_slots.proofs.SeenSlots.{own_slot, own_count, placed_here, placed_there}
 
 -- ---- a default among the operands
 
-four : {X : Type 0} (P : List X → Type 0) → ((a b c e : X) → P (a ∷ b ∷ c ∷ e ∷ [])) → (xs : List X) →
-    length xs ≡ 4 → P xs
+four : {X : Type 0} (P : List X → Type 0) → ((a b c e : X) → P (a ∷ b ∷ c ∷ e ∷ [])) → (xs : List X) → length xs ≡ 4 →
+    P xs
 four P is [] long = absurd (omega (arith, long))
 four P is (a ∷ []) long = absurd (omega (arith, long))
 four P is (a ∷ b ∷ []) long = absurd (omega (arith, long))
@@ -47,25 +43,17 @@ pub others_too : (P : ℕ → Type 0) (default : ℕ) (others : List ℕ) → le
     All P (with_third 0 others default) → All P others
 others_too P default others long =
     four (λ (xs : List ℕ). All P (with_third 0 xs default) → All P xs)
-    (λ a b c e all.
-    let rest = All-tail P a (b ∷ default ∷ c ∷ e ∷ []) all in
+    (λ a b c e all. let rest = All-tail P a (b ∷ default ∷ c ∷ e ∷ []) all in
     let last = All-tail P b (default ∷ c ∷ e ∷ []) rest in
     All-cons P a (b ∷ c ∷ e ∷ []) (All-head P a (b ∷ default ∷ c ∷ e ∷ []) all)
-    (All-cons P b (c ∷ e ∷ []) (All-head P b (default ∷ c ∷ e ∷ []) rest)
-    (All-tail P default (c ∷ e ∷ []) last))) others long
+    (All-cons P b (c ∷ e ∷ []) (All-head P b (default ∷ c ∷ e ∷ []) rest) (All-tail P default (c ∷ e ∷ []) last)))
+    others long
 
 counted_once : (default : ℕ) (others : List ℕ) → length others ≡ 4 →
     occurrences default (with_third 0 others default) ≡ occurrences default others + 1
 counted_once default others long =
     four (λ (xs : List ℕ). occurrences default (with_third 0 xs default) ≡ occurrences default xs + 1)
-    (λ a b c e. omega (
-      arith,
-      named_sum default a (b ∷ default ∷ c ∷ e ∷ []),
-      named_sum default b (default ∷ c ∷ e ∷ []),
-      named_here default (c ∷ e ∷ []),
-      named_sum default a (b ∷ c ∷ e ∷ []),
-      named_sum default b (c ∷ e ∷ []),
-    )) others long
+    (λ a b c e. grind (arith, named_sum, named_here)) others long
 
 pub default_listed : (default : ℕ) (others : List ℕ) → length others ≡ 4 →
     1 ≤ occurrences default (with_third 0 others default)
@@ -74,16 +62,12 @@ default_listed default others long = omega (arith, counted_once default others l
 -- a default that one reference names is none of the others
 pub others_differ : (default : ℕ) (others : List ℕ) → length others ≡ 4 →
     occurrences default (with_third 0 others default) ≤ 1 → All (λ other. other ≢ default) others
-others_differ default others long few k x below same =
-    let named = named_at others k default below (sym (get_or_default others k default x below ∙ same)) in
-    omega (arith, named, counted_once default others long, few)
+others_differ default others long few k x below same = grind (arith, named_at, get_or_default, counted_once)
 
 -- ---- other words, and no result
 
 lowered_once : (s : Slot) → s.count ≡ 1 → lowered_slot s ≡ empty_slot
-lowered_once s one =
-    ap (λ (b : Bool). cond b empty_slot (record { owner = s.owner; count = s.count - 1; words = s.words }))
-    (le-leb s.count 1 (omega (arith, one)))
+lowered_once s one = grind (arith, le-leb)
 
 none_of : (k id : ℕ) → k ≢ id → occurrences k (id ∷ []) ≡ 0
 none_of k id ne = grind (arith, nat_tests)
@@ -97,10 +81,10 @@ own_one job id taken blocks own listed k = elim (cases_eq k id) [
   | inr ne ↦ omega (arith, none_of k id ne)
 ]
 
-pub keeps_references : ReleasesChangeOnlyTheirJob → BlocksChangeOnlyTheirJob → ChangesJoin → (job id : ℕ)
-    (taken : List ℕ) (words : List ℤ) (old new : JobBlocks) → AreOwn job old taken → 1 ≤ occurrences id taken →
-    (slot_at old.memory id).count ≡ 1 → id < length old.memory.slots → new ≡ with_block old job id words →
-    KeepsReferences job old new
+pub keeps_references : ReleasesChangeOnlyTheirJob → BlocksChangeOnlyTheirJob → ChangesJoin →
+    (job id : ℕ) (taken : List ℕ) (words : List ℤ) (old new : JobBlocks) → AreOwn job old taken →
+    1 ≤ occurrences id taken → (slot_at old.memory id).count ≡ 1 → id < length old.memory.slots →
+    new ≡ with_block old job id words → KeepsReferences job old new
 keeps_references releases blocks join job id taken words old new own listed single within is =
     let m : SharedState = old.memory in
     let gone : JobBlocks = with_releases (id ∷ []) old in
@@ -150,8 +134,8 @@ same_ids slots [] = refl
 same_ids slots (c ∷ cells) = ap (λ (ids : List ℕ). c.id ∷ ids) (same_ids slots cells)
 
 -- cells hold blocks whose words changed
-pub held_again : (old new : List Slot) (ids : List ℕ) →
-    ((id : ℕ) → (slot_in new id).count ≡ (slot_in old id).count) → HoldSomeStack old ids → HoldSomeStack new ids
+pub held_again : (old new : List Slot) (ids : List ℕ) → ((id : ℕ) → (slot_in new id).count ≡ (slot_in old id).count) →
+    HoldSomeStack old ids → HoldSomeStack new ids
 held_again old new ids same (stack, h) =
     let cells : List Cell = map (again new) h.cells in
     let named = same_ids new h.cells in (
@@ -173,30 +157,9 @@ held_again old new ids same (stack, h) =
 
 -- ---- the end of a job that runs
 
-active_holds : (slots : List Slot) (task : Task) (t : TrackState ℕ) (o : Option (Outcome (List Vector))) (s : Status) →
-    IsActive s → ShowsAs slots task t o s → HoldSomeStack slots t.cells
-active_holds slots task t o status.Live active run = (run.state.stack, run.holds)
-active_holds slots task t o status.InFlight active flying = (flying.run.state.stack, flying.run.holds)
-active_holds slots task t o status.Waiting active is = absurd active
-active_holds slots task t o status.Ended active is = absurd active
-active_holds slots task t o status.Collected active is = absurd active
-
-active_grant : (task : Task) (s : Status) → IsActive s → grant_by task s ≡ Some task.limits.words
-active_grant task status.Live active = refl
-active_grant task status.InFlight active = refl
-active_grant task status.Waiting active = absurd active
-active_grant task status.Ended active = absurd active
-active_grant task status.Collected active = absurd active
-
 pub may_end : (number : ℕ) (blocks : JobBlocks) (task : Task) (slot : SlotState) → Shows number blocks task slot →
     IsActive slot.status → MayEnd number blocks task slot
-may_end number blocks task slot shows active = record {
-  is_job = shows.is_job;
-  verified = shows.verified;
-  limits = shows.limits;
-  grant = shows.grant ∙ active_grant task slot.status active;
-  holds = active_holds (own_slots number blocks) task slot.trace slot.outcome slot.status active shows.shown;
-}
+may_end number blocks task slot shows active = grind arith
 
 -- and after words of a block changed
 pub may_end_still : (number : ℕ) (old new : JobBlocks) (task : Task) (slot : SlotState) → MayEnd number old task slot →

@@ -54,8 +54,7 @@ same_running s t e = cc
 
 pub shown_are_reached : ShownAreReached
 shown_are_reached number blocks task slot h count live s reached =
-    let from =
-    running_as number blocks.memory task slot.trace slot.outcome slot.status count h.shown live in
+    let from = running_as number blocks.memory task slot.trace slot.outcome slot.status count h.shown live in
     let run = from.run in
     let there = are_there number blocks.memory slot.trace.cells run.state.stack run.holds in
     let here : state_after task count ≡ Running run.state =

@@ -2,8 +2,6 @@
 use Rattle.std.proofs.Common.{◌≡◌, ◌+◌, ◌<◌, ◌≤◌, ℕ, ℤ, List, [], ◌∷◌, length, refl, arith}
 use Rattle.vcode_base.specs.declared.kind.Kind.{Kind}
 use Rattle.vcode_base.specs.declared.op.Op.{Op}
-use Rattle.vcode_base.specs.declared.op.Op.TheVariants.{Const, Elementwise, Segmented, If, Move, Call, Return}
-use Rattle.vcode_base.specs.declared.op.StackMove.TheVariants.{Copy, Pop, MoveToTop}
 use Rattle.vcode_base.specs.declared.rule.Rule.{Rule}
 use Rattle.refcounts.specs.SharedState.{empty_slot, slot_at}
 use Rattle.job_memory.specs.JobBlocks.{JobBlocks, with_block}
@@ -17,17 +15,16 @@ use Rattle.job_slots.specs.Holdings.{Cell, ids_of, entries_of}
 abbrev pub ArePlaced : ℕ → List Cell → JobBlocks → JobBlocks → Type 0
 ArePlaced job [] old new = new ≡ old
 ArePlaced job (cell ∷ cells) old new =
-    (cell.id < length old.memory.slots) × (slot_at old.memory cell.id ≡ empty_slot)
-    × ArePlaced job cells (with_block old job cell.id cell.entry.value.words) new
+    (cell.id < length old.memory.slots) × (slot_at old.memory cell.id ≡ empty_slot) × ArePlaced job cells
+    (with_block old job cell.id cell.entry.value.words) new
 
 -- the operands of an instruction are taken off the stack, whose cells name the blocks of these numbers, and these cells
 -- hold its results
 abbrev pub AreCommitted : Rule → ℕ → Op → List ℕ → List Cell → JobBlocks → JobBlocks → Type 0
 AreCommitted rule job op stack [] old new = new ≡ blocks_after_taking op stack old
 AreCommitted rule job op stack (cell ∷ cells) old new =
-    (between : JobBlocks)
-    × IsExchanged rule job (taken_ids op stack) cell.id cell.entry.value.words old between
-    × ArePlaced job cells between new
+    (between : JobBlocks) × IsExchanged rule job (taken_ids op stack) cell.id cell.entry.value.words old between ×
+    ArePlaced job cells between new
 
 -- the cells that name the blocks of results, which are entries with the next tags
 pub record NewCells (rule : Rule) (job : ℕ) (op : Op) (stack ids : List ℕ) (next : ℕ) (values : List Vector)
@@ -43,8 +40,7 @@ module _ (rule : Rule) (job : ℕ) (op : Op) (stack : List ℕ) (first second : 
     pub new_cells : (kinds : List Kind) (ids : List ℕ) → length ids ≡ length kinds → length kinds ≤ 2 →
         AreSettled rule job op first second stack ids old new →
         NewCells rule job op stack ids next (vectors_of kinds (first ∷ second ∷ [])) old new
-    new_cells [] [] same few settled =
-        record { cells = []; ids_are = refl; entries_are = refl; count = refl; are_committed = settled }
+    new_cells [] [] same few settled = grind arith
     new_cells [] (id ∷ ids) same few settled = absurd (omega (arith, same))
     new_cells (k ∷ ks) [] same few settled = absurd (omega (arith, same))
     new_cells (k ∷ []) (id ∷ []) same few settled =
@@ -74,12 +70,4 @@ module _ (rule : Rule) (job : ℕ) (op : Op) (stack : List ℕ) (first second : 
 -- an instruction changes no grant
 pub same_grants : (op : Op) (ids : List ℕ) (blocks : JobBlocks) →
     (blocks_after_taking op ids blocks).grants ≡ blocks.grants
-same_grants (Const k) ids blocks = refl
-same_grants (Elementwise e) ids blocks = refl
-same_grants (Segmented s) ids blocks = refl
-same_grants If ids blocks = refl
-same_grants (Move Copy lower upper) ids blocks = refl
-same_grants (Move Pop lower upper) ids blocks = refl
-same_grants (Move MoveToTop lower upper) ids blocks = refl
-same_grants Call ids blocks = refl
-same_grants Return ids blocks = refl
+same_grants op ids blocks = grind arith

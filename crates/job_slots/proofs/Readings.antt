@@ -1,5 +1,5 @@
 -- The instruction of a line that is that of a job's next one.
-use Rattle.std.proofs.Common.{◌≡◌, ℕ, ℤ, ◌≤◌, false, List, length, map, refl, sym, subst}
+use Rattle.std.proofs.Common.{◌≡◌, ℕ, ℤ, ◌≤◌, false, List, length, map, refl, sym}
 use Rattle.std.proofs.lemmas.Bool.{false≢true}
 use Rattle.vcode_base.specs.declared.instr.Instr.TheVariants.{Const, Elementwise, Segmented, If, Move, Call, Return}
 use Rattle.vcode_base.specs.declared.op.Op.{Op}
@@ -43,8 +43,7 @@ module _ (law : StepsCanBegin ℕ) (number : ℕ) (blocks : JobBlocks) (task : T
 
   -- its operands are there
   pub deep : (op : Op) → op ≡ op_of (instruction_in line.item) → operand_count op ≤ length t.cells
-  deep op same =
-      subst (λ (o : Op). operand_count o ≤ length t.cells) (sym same) (deep_line task t run.state line can is_line)
+  deep op same = rw same (deep_line task t run.state line can is_line)
 
   pub live : AreLive blocks.memory t.cells
   live = (are_there number blocks.memory t.cells run.state.stack run.holds).live

@@ -1,7 +1,6 @@
 -- The results of a job that has returned, cell by cell.
-use Rattle.std.proofs.Common.{◌≡◌, ℕ, ℤ, ◌+◌, ◌<◌, Bool, true, false, cond, eqb, List, [], ◌∷◌, ◌++◌, length}
-use Rattle.std.proofs.Common.{get_or, take}
-use Rattle.std.proofs.Common.{refl, sym, ◌∙◌, ap, subst, arith}
+use Rattle.std.proofs.Common.{◌≡◌, ℕ, ℤ, ◌+◌, ◌<◌, List, [], ◌∷◌, ◌++◌, length, get_or, take, refl, sym, ◌∙◌, ap, subst}
+use Rattle.std.proofs.Common.{arith}
 use Rattle.std.specs.Prelude.{All, map, min, reverse}
 use Rattle.std.proofs.lemmas.List.{length-map, get_or-map, take_more, take_all}
 use Rattle.std.proofs.lemmas.List.Elements.{All-nil, All-cons, All-weaker}
@@ -9,14 +8,13 @@ use Rattle.vcode_base.specs.declared.kind.Kind.{Kind}
 use Rattle.vcode_base.specs.declared.kind.Kind.TheVariants.{Int}
 use Rattle.vcode_base.specs.declared.outcome.Outcome.{Outcome}
 use Rattle.vcode_base.specs.declared.outcome.Outcome.TheVariants.{Returned, Fault, Memory, Budget}
-use Rattle.refcounts.specs.SharedState.{Slot, SharedState, empty_slot, slot_in, slot_at, occurrences, IsLive}
+use Rattle.refcounts.specs.SharedState.{Slot, SharedState, slot_in, slot_at, occurrences, IsLive}
 use Rattle.refcounts.specs.Owners.{slots_seen_by}
 use Rattle.job_memory.specs.JobBlocks.{JobBlocks, own_slots}
 use Rattle.job_steps.specs.EventLaws.{IsVerified}
 use Rattle.job_steps.specs.Reached.{EachEnds, ResultsHaveKinds}
-use Rattle.job_steps.specs.Runs.{outcome, executed_count, peak}
-use Rattle.job_steps.specs.States.{Vector, Task, StackEntry, values_of}
-use Rattle.job_steps.specs.Steps.{Over}
+use Rattle.job_steps.specs.Runs.{outcome}
+use Rattle.job_steps.specs.States.{Vector, Task, values_of}
 use Rattle.job_steps.specs.Tracks.{TrackState}
 use Rattle.job_slots.specs.Holdings.{Cell, ids_of, entries_of}
 use Rattle.job_slots.specs.Slots.{HasReturned}
@@ -55,14 +53,7 @@ values_of_cells (x ∷ xs) = ap (λ (vs : List Vector). x.entry.value ∷ vs) (v
 -- a block of a job is there
 own_block : (job : ℕ) (memory : SharedState) (id : ℕ) → 0 < (slot_in (slots_seen_by job memory) id).count →
     slot_in (slots_seen_by job memory) id ≡ slot_at memory id
-own_block job memory id some =
-    own_slot job memory.slots id
-    ∙ seen (slot_at memory id) (eqb (slot_at memory id).owner job)
-    (subst (λ (slot : Slot). 0 < slot.count) (own_slot job memory.slots id) some)
-  where
-    seen : (slot : Slot) (b : Bool) → 0 < (cond b slot empty_slot).count → cond b slot empty_slot ≡ slot
-    seen slot true some = refl
-    seen slot false some = absurd (let none : 0 < 0 = some in omega arith)
+own_block job memory id some = grind (arith, own_slot, slot_at)
 
 -- the cells of a job that has returned, from the bottom up, and its results
 record AreResults (task : Task) (ids : List ℕ) (cells : List Cell) : Type 0 where
@@ -71,15 +62,7 @@ record AreResults (task : Task) (ids : List ℕ) (cells : List Cell) : Type 0 wh
 
 are_results : (slots : List Slot) (task : Task) (t : TrackState ℕ) → (returned : HasReturned slots task t) →
     AreResults task t.cells returned.holds.cells
-are_results slots task t returned =
-    let h = returned.holds in
-    record {
-      ids_are = ap reverse h.ids_are ∙ sym (map-reverse (λ (c : Cell). c.id) h.cells);
-      values_are =
-          ap values_in returned.outcome_is
-          ∙ (ap (λ (es : List StackEntry). reverse (values_of es)) h.entries_are
-          ∙ (ap reverse (values_of_cells h.cells) ∙ sym (map-reverse (λ (c : Cell). c.entry.value) h.cells)));
-    }
+are_results slots task t returned = grind (arith, map-reverse, values_in, values_of_cells)
 
 -- there are as many results as cells
 pub length-results : (slots : List Slot) (task : Task) (t : TrackState ℕ) → HasReturned slots task t →
@@ -87,22 +70,13 @@ pub length-results : (slots : List Slot) (task : Task) (t : TrackState ℕ) → 
 length-results slots task t returned =
     let h = returned.holds in
     let is = are_results slots task t returned in
-    ap length is.values_are
-    ∙ (length-map (reverse h.cells) (λ (c : Cell). c.entry.value)
+    ap length is.values_are ∙ (length-map (reverse h.cells) (λ (c : Cell). c.entry.value)
     ∙ sym (ap length is.ids_are ∙ length-map (reverse h.cells) (λ (c : Cell). c.id)))
 
 -- the results are of the kinds that MAIN gives
 pub kinds_are : ResultsHaveKinds → EachEnds → (slots : List Slot) (task : Task) (t : TrackState ℕ) → IsVerified task →
     HasReturned slots task t → task.verified.results ≡ map (λ (v : Vector). v.kind) (values_in (outcome task))
-kinds_are have ends slots task t verified returned =
-    let same : outcome task ≡ Returned (values_in (outcome task)) =
-    returned.outcome_is
-    ∙ ap (λ (vs : List Vector). let o : Outcome (List Vector) = Returned vs in o)
-    (sym (ap values_in returned.outcome_is))
-    in
-    sym (have verified.0 task verified.1 (task.limits.budget + 1) (values_in (outcome task)) (executed_count task)
-    (peak task) (over_at ends verified.0 task verified.1
-    ∙ ap (λ (ending : Outcome (List Vector)). Over ending (executed_count task) (peak task)) same))
+kinds_are have ends slots task t verified returned = grind (arith, values_in, over_at)
 
 -- the block of a cell is there, and has the words of the result at its place
 pub record IsResult (job : ℕ) (memory : SharedState) (values : List Vector) (k id : ℕ) (kind : Kind) : Type 0 where
@@ -113,14 +87,11 @@ pub record IsResult (job : ℕ) (memory : SharedState) (values : List Vector) (k
       words ≡ (slot_at memory id).words → value ≡ get_or values k d
 
 same_vector : (x y : Vector) → x.kind ≡ y.kind → x.words ≡ y.words → x ≡ y
-same_vector x y kinds words =
-    ap (λ (k : Kind). let v : Vector = record { kind = k; words = x.words } in v) kinds
-    ∙ ap (λ (ws : List ℤ). let v : Vector = record { kind = y.kind; words = ws } in v) words
+same_vector x y kinds words = grind arith
 
 pub result_at : ResultsHaveKinds → EachEnds → (job : ℕ) (blocks : JobBlocks) (task : Task) (t : TrackState ℕ) →
-    IsVerified task → HasReturned (own_slots job blocks) task t → (k id : ℕ) (kind : Kind)
-    → k < length (reverse t.cells) →
-    id ≡ get_or (reverse t.cells) k 0 → kind ≡ get_or task.verified.results k Int →
+    IsVerified task → HasReturned (own_slots job blocks) task t → (k id : ℕ) (kind : Kind) →
+    k < length (reverse t.cells) → id ≡ get_or (reverse t.cells) k 0 → kind ≡ get_or task.verified.results k Int →
     IsResult job blocks.memory (values_in (outcome task)) k id kind
 result_at have ends job blocks task t verified returned k id kind lt id_is kind_is =
     let h = returned.holds in
@@ -162,13 +133,9 @@ result_at have ends job blocks task t verified returned k id kind lt id_is kind_
 
 -- one result more
 pub more_results : (values items more : List Vector) (k n : ℕ) (value : Vector) → k < length values →
-    items ≡ take k values → value ≡ get_or values k value → more ≡ items ++ value ∷ [] → n ≡ k + 1
-    → more ≡ take n values
-more_results values items more k n value lt so_far is more_is n_is =
-    more_is
-    ∙ (ap (λ (vs : List Vector). vs ++ value ∷ []) so_far
-    ∙ (ap (λ (v : Vector). take k values ++ v ∷ []) is
-    ∙ (sym (take_more values k value lt) ∙ ap (λ (m : ℕ). take m values) (sym n_is))))
+    items ≡ take k values → value ≡ get_or values k value → more ≡ items ++ value ∷ [] → n ≡ k + 1 →
+    more ≡ take n values
+more_results values items more k n value lt so_far is more_is n_is = grind (arith, take_more)
 
 -- ---- the loop over the cells and the kinds
 
@@ -188,19 +155,17 @@ result_of_turn have ends job blocks task t verified returned ids kinds paired k 
 
 -- each value is a result, and so all of them are the results
 pub all_results : ResultsHaveKinds → EachEnds → (slots : List Slot) (task : Task) (t : TrackState ℕ) → IsVerified task →
-    HasReturned slots task t → (ids : List ℕ) (kinds : List Kind) → ArePaired task t ids kinds → (n : ℕ)
-    (items : List Vector) → n ≡ min (length ids) (length kinds) → items ≡ take n (values_in (outcome task)) →
+    HasReturned slots task t → (ids : List ℕ) (kinds : List Kind) → ArePaired task t ids kinds →
+    (n : ℕ) (items : List Vector) → n ≡ min (length ids) (length kinds) → items ≡ take n (values_in (outcome task)) →
     outcome task ≡ Returned items
 all_results have ends slots task t verified returned ids kinds paired n items n_is items_are =
     let values : List Vector = values_in (outcome task) in
     let kind_count : length kinds ≡ length values =
-    ap length (paired.kinds_are ∙ kinds_are have ends slots task t verified returned)
+    ap length (paired.kinds_are ∙ kinds_are have ends _ _ t verified returned)
     ∙ length-map values (λ (v : Vector). v.kind) in
-    let id_count : length ids ≡ length values =
-    ap length paired.ids_are ∙ sym (length-results slots task t returned) in
+    let id_count : length ids ≡ length values = ap length paired.ids_are ∙ sym (length-results _ _ t returned) in
     let all : n ≡ length values = omega arith in
-    let is : items ≡ values =
-    items_are ∙ (ap (λ (m : ℕ). take m values) all ∙ take_all (length values) values (omega arith)) in
-    returned.outcome_is
-    ∙ ap (λ (vs : List Vector). let o : Outcome (List Vector) = Returned vs in o)
+    let is : items ≡ values = items_are
+    ∙ (ap (λ (m : ℕ). take m values) all ∙ take_all (length values) values (omega arith)) in
+    returned.outcome_is ∙ ap (λ (vs : List Vector). let o : Outcome (List Vector) = Returned vs in o)
     (sym (ap values_in returned.outcome_is) ∙ sym is)

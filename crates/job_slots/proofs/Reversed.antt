@@ -1,6 +1,6 @@
 -- Parts of lists from the other end.
 use Rattle.std.proofs.Common.{◌≡◌, ◌∙◌, ◌+◌, ◌-◌, ◌≤◌, ℕ, List, [], ◌∷◌, ◌++◌, length, map, take, drop, reverse, refl}
-use Rattle.std.proofs.Common.{sym, ap, subst, arith}
+use Rattle.std.proofs.Common.{sym, ap, arith}
 use Rattle.std.specs.Prelude.{All}
 use Rattle.std.proofs.lemmas.List.{length-reverse, length-take, length-drop, reverse-append, reverse-reverse}
 use Rattle.std.proofs.lemmas.List.{map-append, take-append-drop, take_all, drop-take}
@@ -21,10 +21,7 @@ reverse-cons x xs = reverse-append (x ∷ []) xs
 
 pub map-reverse : {E F : Type 0} (f : E → F) (xs : List E) → map f (reverse xs) ≡ reverse (map f xs)
 map-reverse f [] = refl
-map-reverse f (x ∷ xs) =
-    ap (map f) (reverse-cons x xs)
-    ∙ (map-append f (reverse xs) (x ∷ [])
-    ∙ (ap (λ ys. ys ++ f x ∷ []) (map-reverse f xs) ∙ sym (reverse-cons (f x) (map f xs))))
+map-reverse f (x ∷ xs) = grind (arith, reverse-cons, map-append, (map-reverse f xs))
 
 pub All-reverse : {E : Type 0} (P : E → Type 0) (xs : List E) → All P xs → All P (reverse xs)
 All-reverse P xs all = All-permutation P xs (reverse xs) (IsPermutation-reverse xs) all
@@ -41,36 +38,20 @@ module _ (xs : List ℕ) (k : ℕ) (within : k ≤ length xs) where
   count = omega (arith, length-reverse (drop (length xs - k) xs), length-drop (length xs - k) xs)
 
   drop-reverse : drop k (reverse xs) ≡ reverse (take (length xs - k) xs)
-  drop-reverse =
-      ap (drop k) split
-      ∙ ap (λ n. drop n (reverse (drop (length xs - k) xs) ++ reverse (take (length xs - k) xs))) count
-      ∙ drop-append_seam (reverse (drop (length xs - k) xs)) (reverse (take (length xs - k) xs))
+  drop-reverse = grind (arith, split, count, drop-append_seam)
 
   take-reverse : take k (reverse xs) ≡ reverse (drop (length xs - k) xs)
-  take-reverse =
-      ap (take k) split
-      ∙ ap (λ n. take n (reverse (drop (length xs - k) xs) ++ reverse (take (length xs - k) xs))) count
-      ∙ take-append_seam (reverse (drop (length xs - k) xs)) (reverse (take (length xs - k) xs))
+  take-reverse = grind (arith, split, count, take-append_seam)
 
 -- the top, if it is the last
 pub top_slice : (xs : List ℕ) (count : ℕ) → count ≤ length xs →
     take (length xs - (length xs - count)) (drop (length xs - count) xs) ≡ top_entries count (reverse xs)
-top_slice xs count within =
-    take_all (length xs - (length xs - count)) (drop (length xs - count) xs)
-    (omega (arith, length-drop (length xs - count) xs))
-    ∙ sym (ap reverse (take-reverse xs count within) ∙ reverse-reverse (drop (length xs - count) xs))
+top_slice xs count within = grind (arith, take_all, count, length-drop, take-reverse, reverse-reverse)
 
 -- those below the top, if the top is the last
 moved_below : (xs : List ℕ) (lower upper : ℕ) → lower + upper ≤ length xs →
     drop (length xs - upper - lower) (take (length xs - upper) xs) ≡ moved_ids lower upper (reverse xs)
-moved_below xs lower upper within =
-    let front = take (length xs - upper) xs in
-    let size : length front ≡ length xs - upper = omega (arith, length-take (length xs - upper) xs) in
-    let below : lower ≤ length front = omega (arith, size) in
-    sym (ap (λ ys. reverse (take lower ys)) (drop-reverse xs upper (omega arith))
-    ∙ ap reverse (take-reverse front lower below)
-    ∙ reverse-reverse (drop (length front - lower) front)
-    ∙ ap (λ n. drop (n - lower) front) size)
+moved_below xs lower upper within = grind (arith, length-take, drop-reverse, take-reverse, reverse-reverse)
 
 pub moved_slice : (xs : List ℕ) (lower upper : ℕ) → lower + upper ≤ length xs →
     take (length xs - upper - (length xs - upper - lower)) (drop (length xs - upper - lower) xs)
@@ -79,17 +60,11 @@ moved_slice xs lower upper within =
     let from = length xs - upper - lower in
     let size : length xs - upper - from ≡ lower = omega arith in
     let end : from + lower ≡ length xs - upper = omega arith in
-    ap (λ n. take n (drop from xs)) size
-    ∙ sym (drop-take from lower xs)
-    ∙ ap (λ n. drop from (take n xs)) end
+    ap (λ n. take n (drop from xs)) size ∙ sym (drop-take from lower xs) ∙ ap (λ n. drop from (take n xs)) end
     ∙ moved_below xs lower upper within
 
 -- the blocks that an instruction copies are few
-pub few_copied : (op : Op) (lower upper : ℕ) (ids cells slice : List ℕ) (blocks : JobBlocks)
-    → op ≡ Move Copy lower upper →
-    CanShare op ids blocks → cells ≡ reverse ids → slice ≡ moved_ids lower upper (reverse cells) → AreFew blocks slice
-few_copied op lower upper ids cells slice blocks op_is can cells_are slice_is =
-    let same : slice ≡ moved_ids lower upper ids =
-    slice_is ∙ ap (λ xs. moved_ids lower upper (reverse xs)) cells_are
-    ∙ ap (moved_ids lower upper) (reverse-reverse ids) in
-    subst (AreFew blocks) (sym same) (subst (λ (o : Op). CanShare o ids blocks) op_is can)
+pub few_copied : (op : Op) (lower upper : ℕ) (ids cells slice : List ℕ) (blocks : JobBlocks) →
+    op ≡ Move Copy lower upper → CanShare op ids blocks → cells ≡ reverse ids →
+    slice ≡ moved_ids lower upper (reverse cells) → AreFew blocks slice
+few_copied op lower upper ids cells slice blocks op_is can cells_are slice_is = grind (arith, reverse-reverse)

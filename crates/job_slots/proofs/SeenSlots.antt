@@ -1,6 +1,5 @@
 -- What a job sees of a memory after it placed a block, and after references were shared or released.
-use Rattle.std.proofs.Common.{◌≡◌, ◌≢◌, ℕ, ℤ, ◌+◌, ◌<◌, ◌≤◌, true, false, cond, eqb, List, [], ◌∷◌, length}
-use Rattle.std.proofs.Common.{map, refl, sym, ◌∙◌, ap, subst, inl, inr, arith, zero, suc}
+use Rattle.std.proofs.Common.{◌≡◌, ◌≢◌, ℕ, ℤ, ◌+◌, ◌<◌, ◌≤◌, List, [], ◌∷◌, length, map, refl, sym, ◌∙◌, ap, arith}
 use Rattle.std.proofs.lemmas.Bool.{cases_eq, cases_lt}
 use Rattle.std.proofs.lemmas.Bool.Decides.{nat_tests}
 use Rattle.std.proofs.lemmas.List.{get_or-set_same, get_or-set_other}
@@ -12,14 +11,10 @@ use Rattle.refcounts.specs.Laws.{SharesAreCounted, ReleasesAreCounted, ReleasesK
 -- ---- one slot
 
 seen_none : (job : ℕ) → slot_seen_by job empty_slot ≡ empty_slot
-seen_none job =
-    elim (eqb 0 job) as (λ b. cond b empty_slot empty_slot ≡ empty_slot) [ true ↦ refl | false ↦ refl ]
+seen_none job = grind arith
 
 seen_own : (job : ℕ) (slot : Slot) → slot.owner ≡ job → slot_seen_by job slot ≡ slot
 seen_own job slot is = grind (arith, nat_tests)
-
-seen_other : (job : ℕ) (slot : Slot) → slot.owner ≢ job → slot_seen_by job slot ≡ empty_slot
-seen_other job slot ne = grind (arith, nat_tests)
 
 seen_count : (job : ℕ) (slot : Slot) → (slot_seen_by job slot).count ≤ slot.count
 seen_count job slot = grind (arith, nat_tests)
@@ -43,100 +38,20 @@ count_of s t e = ap (λ (x : Slot). x.count) e
 words_of : (s t : Slot) → s ≡ t → s.words ≡ t.words
 words_of s t e = ap (λ (x : Slot). x.words) e
 
-seen_less : (job taken : ℕ) (old new : Slot) → taken ≤ (slot_seen_by job old).count →
-    new.count + taken ≡ old.count → (taken < old.count → IsKept old new) →
-    IsLess taken (slot_seen_by job old) (slot_seen_by job new)
-seen_less job taken old new few counted kept = elim (cases_eq old.owner job) [
-  | inl is ↦ (
-      let was = seen_own job old is in
-      let before = count_of (slot_seen_by job old) old was in
-      elim (cases_lt taken old.count) [
-        | inl lt ↦ (
-            let k = kept lt in
-            let now = seen_own job new (k.0 ∙ is) in
-            let after = count_of (slot_seen_by job new) new now in
-            record {
-              count = omega (arith, before, after, counted);
-              words = λ some. words_of (slot_seen_by job new) new now
-                  ∙ (k.1 ∙ sym (words_of (slot_seen_by job old) old was));
-            }
-            )
-        | inr all ↦ (
-            let gone = seen_count job new in
-            record {
-              count = omega (arith, before, gone, counted, few);
-              words = λ some. absurd (omega (arith, some, before, all));
-            }
-            )
-      ]
-      )
-  | inr ne ↦ (
-      let before = count_of (slot_seen_by job old) empty_slot (seen_other job old ne) in
-      let none : taken ≤ 0 = omega (arith, few, before) in
-      elim (cases_lt taken old.count) [
-        | inl lt ↦ (
-            let k = kept lt in
-            let after = count_of (slot_seen_by job new) empty_slot (seen_other job new (λ e. ne (sym k.0 ∙ e))) in
-            record {
-              count = omega (arith, before, after, none);
-              words = λ some. absurd (omega (arith, some, before));
-            }
-            )
-        | inr all ↦ (
-            let gone = seen_count job new in
-            record {
-              count = omega (arith, before, gone, counted, all, none);
-              words = λ some. absurd (omega (arith, some, before));
-            }
-            )
-      ]
-      )
-]
+seen_less : (job taken : ℕ) (old new : Slot) → taken ≤ (slot_seen_by job old).count → new.count + taken ≡ old.count →
+    (taken < old.count → IsKept old new) → IsLess taken (slot_seen_by job old) (slot_seen_by job new)
+seen_less job taken old new few counted kept =
+    grind (arith, cases_eq, seen_own, count_of, cases_lt, words_of, seen_count)
 
 abbrev recounted : Slot → ℕ → Slot
 recounted slot n = record { owner = slot.owner; count = n; words = slot.words }
-
-seen_more : (job more : ℕ) (old : Slot) → more ≤ (slot_seen_by job old).count →
-    IsMore more (slot_seen_by job old) (slot_seen_by job (recounted old (old.count + more)))
-seen_more job more old few = elim (cases_eq old.owner job) [
-  | inl is ↦ (
-      let was = seen_own job old is in
-      let now = seen_own job (recounted old (old.count + more)) is in
-      record {
-        count = omega (
-          arith,
-          count_of (slot_seen_by job old) old was,
-          count_of (slot_seen_by job (recounted old (old.count + more))) (recounted old (old.count + more)) now,
-        );
-        words =
-            words_of (slot_seen_by job (recounted old (old.count + more))) (recounted old (old.count + more)) now
-            ∙ sym (words_of (slot_seen_by job old) old was);
-      }
-      )
-  | inr ne ↦ (
-      let was = seen_other job old ne in
-      let now = seen_other job (recounted old (old.count + more)) ne in
-      record {
-        count = omega (
-          arith,
-          few,
-          count_of (slot_seen_by job old) empty_slot was,
-          count_of (slot_seen_by job (recounted old (old.count + more))) empty_slot now,
-        );
-        words =
-            words_of (slot_seen_by job (recounted old (old.count + more))) empty_slot now
-            ∙ sym (words_of (slot_seen_by job old) empty_slot was);
-      }
-      )
-]
 
 -- ---- the slot of a number
 
 seen_in : (job : ℕ) (slots : List Slot) (id : ℕ) →
     slot_in (map (slot_seen_by job) slots) id ≡ slot_seen_by job (slot_in slots id)
 seen_in job [] id = sym (seen_none job)
-seen_in job (slot ∷ slots) zero = refl
-seen_in job (slot ∷ slots) (suc id) = seen_in job slots id
+seen_in job (slot ∷ slots) id = grind (arith, (seen_in job slots))
 
 -- the slot of a number as the job sees it
 abbrev pub own_slot : ℕ → SharedState → ℕ → Slot
@@ -146,12 +61,7 @@ pub seen_at : (job : ℕ) (memory : SharedState) (id : ℕ) → own_slot job mem
 seen_at job memory id = seen_in job memory.slots id
 
 pub own_count : (job : ℕ) (memory : SharedState) (id : ℕ) → (own_slot job memory id).count ≤ (slot_at memory id).count
-own_count job memory id =
-    omega (
-      arith,
-      count_of (own_slot job memory id) (slot_seen_by job (slot_at memory id)) (seen_at job memory id),
-      seen_count job (slot_at memory id),
-    )
+own_count job memory id = grind (arith, count_of, own_slot, slot_at, seen_at, seen_count)
 
 -- a block that was placed, and the others
 pub placed_here : (job : ℕ) (memory : SharedState) (id : ℕ) (words : List ℤ) → id < length memory.slots →
@@ -170,9 +80,7 @@ placed_there job memory id other words ne =
 
 pub none_here : (job : ℕ) (memory : SharedState) (id : ℕ) → slot_at memory id ≡ empty_slot →
     (own_slot job memory id).count ≡ 0
-none_here job memory id empty =
-    count_of (own_slot job memory id) empty_slot
-    (seen_at job memory id ∙ (ap (slot_seen_by job) empty ∙ seen_none job))
+none_here job memory id empty = grind (arith, count_of, own_slot, seen_at, seen_none)
 
 -- references that the job releases, and those that it shares
 pub released_at : ReleasesAreCounted → ReleasesKeepBlocks → (job : ℕ) (memory : SharedState) (ids : List ℕ) →
@@ -181,22 +89,12 @@ pub released_at : ReleasesAreCounted → ReleasesKeepBlocks → (job : ℕ) (mem
 released_at counted kept job memory ids own id =
     let named : AreNamed memory ids = λ k. omega (arith, own k, own_count job memory k) in
     let few : occurrences id ids ≤ (slot_seen_by job (slot_at memory id)).count =
-    subst (λ (s : Slot). occurrences id ids ≤ s.count) (seen_at job memory id) (own id) in
-    let less = seen_less job (occurrences id ids) (slot_at memory id) (slot_at (state_after_releases memory ids) id) few
-    (counted memory ids id named) (kept memory ids id named) in
-    subst (λ (s : Slot). IsLess (occurrences id ids) s (own_slot job (state_after_releases memory ids) id))
-    (sym (seen_at job memory id))
-    (subst (λ (s : Slot). IsLess (occurrences id ids) (slot_seen_by job (slot_at memory id)) s)
-    (sym (seen_at job (state_after_releases memory ids) id)) less)
+    rw (← seen_at job memory id) (own id) in
+    let less = seen_less _ _ _ _ few (counted memory ids id named) (kept memory ids id named) in
+    rw (← sym (seen_at job memory id)) (rw (seen_at job (state_after_releases memory ids) id) less)
 
-pub shared_at : SharesAreCounted → (job : ℕ) (memory : SharedState) (ids : List ℕ) → AreLive memory ids →
-    (id : ℕ) → occurrences id ids ≤ (own_slot job memory id).count →
+pub shared_at : SharesAreCounted → (job : ℕ) (memory : SharedState) (ids : List ℕ) → AreLive memory ids → (id : ℕ) →
+    occurrences id ids ≤ (own_slot job memory id).count →
     IsMore (occurrences id ids) (own_slot job memory id) (own_slot job (state_after_shares memory ids) id)
 shared_at counted job memory ids live id own =
-    let few : occurrences id ids ≤ (slot_seen_by job (slot_at memory id)).count =
-    subst (λ (s : Slot). occurrences id ids ≤ s.count) (seen_at job memory id) own in
-    let more = seen_more job (occurrences id ids) (slot_at memory id) few in
-    subst (λ (s : Slot). IsMore (occurrences id ids) s (own_slot job (state_after_shares memory ids) id))
-    (sym (seen_at job memory id))
-    (subst (λ (s : Slot). IsMore (occurrences id ids) (slot_seen_by job (slot_at memory id)) s)
-    (sym (seen_at job (state_after_shares memory ids) id ∙ ap (slot_seen_by job) (counted memory ids id live))) more)
+    grind (arith, slot_at, seen_at, cases_eq, seen_own, recounted, count_of, words_of, own_slot)

@@ -1,6 +1,5 @@
 -- Cells that still hold a stack after a block was placed, and after references were shared or released.
-use Rattle.std.proofs.Common.{◌≡◌, ◌≢◌, ℕ, ◌+◌, ◌<◌, ◌≤◌, List, ◌∷◌, length, refl}
-use Rattle.std.proofs.Common.{sym, ◌∙◌, ap, subst, inl, inr, arith}
+use Rattle.std.proofs.Common.{◌≡◌, ◌≢◌, ℕ, ◌+◌, ◌<◌, ◌≤◌, List, ◌∷◌, length, sym, ◌∙◌, ap, subst, arith}
 use Rattle.std.specs.Prelude.{All}
 use Rattle.std.proofs.lemmas.Bool.{cases_eq}
 use Rattle.std.proofs.lemmas.List.Elements.{All-cons, All-weaker, All-map}
@@ -25,20 +24,14 @@ Among part whole = (P : Cell → Type 0) → All P whole → All P part
 abbrev IsAlike : List Cell → Cell → Type 0
 IsAlike cells x = All (AreAlike x) cells
 
-alike_among : (part whole : List Cell) → Among part whole → All (IsAlike whole) whole →
-    All (IsAlike part) part
+alike_among : (part whole : List Cell) → Among part whole → All (IsAlike whole) whole → All (IsAlike part) part
 alike_among part whole among alike =
-    among (IsAlike part)
-    (All-weaker (IsAlike whole) (IsAlike part) (λ x each. among (AreAlike x) each) whole
-    alike)
+    among (IsAlike part) (All-weaker (IsAlike whole) (IsAlike part) (λ x each. among (AreAlike x) each) whole alike)
 
 -- ---- one block more
 
 is_alike : (x y : Cell) → x.id ≢ y.id → x.entry.tag ≢ y.entry.tag → AreAlike x y
 is_alike x y ids tags = (λ e. absurd (ids e), λ e. absurd (tags e))
-
-alike_itself : (x : Cell) → AreAlike x x
-alike_itself x = (λ e. refl, λ e. refl)
 
 module _ (job : ℕ) (old : SharedState) (c : Cell) (cells : List Cell) (within : c.id < length old.slots)
     (empty : slot_at old c.id ≡ empty_slot) (held : AreHeld (slots_seen_by job old) cells)
@@ -50,9 +43,9 @@ module _ (job : ℕ) (old : SharedState) (c : Cell) (cells : List Cell) (within 
   unnamed = omega (arith, none_here job old c.id empty, held.counts c.id)
 
   apart : All (λ (x : Cell). x.id ≢ c.id) cells
-  apart = All-weaker (IsNamed cells) (λ (x : Cell). x.id ≢ c.id) (λ x some e. absurd
-      (let here : 0 < times c.id cells = subst (λ (id : ℕ). 0 < times id cells) e some in omega (arith, here, unnamed)))
-      cells (each_occurs cells)
+  apart =
+      All-weaker (IsNamed cells) (λ (x : Cell). x.id ≢ c.id) (λ x some e. absurd (let here : 0 < times c.id cells =
+      subst (λ (id : ℕ). 0 < times id cells) e some in omega (arith, here, unnamed))) cells (each_occurs cells)
 
   words : All (HasWords (slots_seen_by job new)) (c ∷ cells)
   words =
@@ -63,24 +56,8 @@ module _ (job : ℕ) (old : SharedState) (c : Cell) (cells : List Cell) (within 
       (All-both (λ (x : Cell). x.id ≢ c.id) (HasWords (slots_seen_by job old)) cells apart held.words))
 
   counts : (id : ℕ) → (slot_in (slots_seen_by job new) id).count ≡ times id (c ∷ cells)
-  counts id = elim (cases_eq id c.id) [
-    | inl e ↦
-        subst (λ (k : ℕ). (slot_in (slots_seen_by job new) k).count ≡ times k (c ∷ cells)) (sym e)
-        (omega (
-          arith,
-          ap (λ (s : Slot). s.count) (placed_here job old c.id c.entry.value.words within),
-          times_cons c.id c cells,
-          times_itself c,
-          unnamed,
-        ))
-    | inr ne ↦ omega (
-      arith,
-      ap (λ (s : Slot). s.count) (placed_there job old c.id id c.entry.value.words ne),
-      held.counts id,
-      times_cons id c cells,
-      times_other id c ne,
-    )
-  ]
+  counts id =
+      grind (arith, cases_eq, slot_in, new, placed_here, times_cons, times_itself, unnamed, placed_there, times_other)
 
   -- a cell of another block, with an older tag
   abbrev IsOlder : Cell → Type 0
@@ -89,19 +66,11 @@ module _ (job : ℕ) (old : SharedState) (c : Cell) (cells : List Cell) (within 
   older : All IsOlder cells
   older = All-both (λ (x : Cell). x.id ≢ c.id) (λ (x : Cell). x.entry.tag < c.entry.tag) cells apart later
 
-  alike_before : (x : Cell) → IsOlder x → AreAlike x c
-  alike_before x o = is_alike x c o.0 (λ e. absurd (omega (arith, o.1, e)))
-
   alike_after : (x : Cell) → IsOlder x → AreAlike c x
   alike_after x o = is_alike c x (λ e. o.0 (sym e)) (λ e. absurd (omega (arith, o.1, e)))
 
   alike : All (IsAlike (c ∷ cells)) (c ∷ cells)
-  alike =
-      All-cons (IsAlike (c ∷ cells)) c cells
-      (All-cons (AreAlike c) c cells (alike_itself c) (All-weaker IsOlder (AreAlike c) alike_after cells older))
-      (All-weaker (λ (x : Cell). IsOlder x × All (AreAlike x) cells) (IsAlike (c ∷ cells))
-      (λ x both. All-cons (AreAlike x) c cells (alike_before x both.0) both.1) cells
-      (All-both IsOlder (IsAlike cells) cells older held.alike))
+  alike = grind (arith, All-cons, IsAlike, All-weaker, IsOlder, alike_after, older, is_alike, All-both)
 
   -- a new block, whose entry's tag is newer than all others
   pub placed_one : AreHeld (slots_seen_by job (with_slot old c.id (new_slot job c.entry.value.words))) (c ∷ cells)
@@ -142,8 +111,7 @@ module _ (counted : SharesAreCounted) (job : ℕ) (memory : SharedState) (new mo
   own_shared =
       All-map (λ id. 0 < (slot_in (slots_seen_by job memory) id).count) (λ (c : Cell). c.id) more
       (All-weaker (IsNamed whole) (λ (c : Cell). 0 < (slot_in (slots_seen_by job memory) c.id).count)
-      (λ c some. omega (arith, some, held.counts c.id)) more
-      (part (IsNamed whole) (each_occurs whole)))
+      (λ c some. omega (arith, some, held.counts c.id)) more (part (IsNamed whole) (each_occurs whole)))
 
   pub live_shared : AreLive memory (ids_of more)
   live_shared =

@@ -15,26 +15,22 @@ use Rattle.job_steps.specs.States.{Task}
 use Rattle.job_steps.specs.Steps.{flag_of}
 use Rattle.job_steps.specs.Tickets.{AreResults, question_by}
 use Rattle.job_steps.specs.Tracks.{TrackState}
-use Rattle.job_steps.specs.declared.event.Event.TheVariants as event
-use Rattle.job_steps.specs.Events.{next_standing}
-use Rattle.job_steps.specs.Standings.{Live, Ended}
 use Rattle.job_slots.specs.declared.in_place.Placement.{Placement}
 use Rattle.job_slots.specs.Answers.{line_at, question_at}
 use Rattle.job_slots.specs.Commits.{blocks_beside, taken_ids}
 use Rattle.job_slots.specs.Executions.{HasSettled}
-use Rattle.job_slots.specs.Slots.{SlotState, standing_of}
 
 abbrev pub is_constant : Op → Bool
 is_constant (Const k) = true
 is_constant op = false
 
--- the instruction makes results of so many words of these operands, unless their values have a fault
+-- the instruction makes results of these numbers of words of these operands, unless their values have a fault
 pub record CanCompute (op : Op) (sources : List (List ℤ)) (needed : ℕ × ℕ) : Type 0 where
   pub kinds : HaveKinds (source_kinds op) sources
   pub shaped : shape op sources ≡ None
   pub needs : need op sources ≡ needed
 
--- the results of an instruction, of which the second has so many words: if it has none, there is no second
+-- how many results an instruction has, by the words of its second one: if that has none, there is no second
 abbrev pub result_count : ℕ → ℕ
 result_count zero = 1
 result_count (suc n) = 2
@@ -70,8 +66,8 @@ pub record KeepsReferences (job : ℕ) (old new : JobBlocks) : Type 0 where
   pub counts : (id : ℕ) → (slot_in (own_slots job new) id).count ≡ (slot_in (own_slots job old) id).count
   pub others : ChangesOnlyOf job old new
 
--- the instruction is the next of the job, its operands are on the stack, and the job has room for its results of so
--- many words beside them
+-- the instruction is the next of the job, its operands are on the stack, and the job has room beside them for its
+-- results, of these numbers of words
 pub record IsPlaceable (task : Task) (job : ℕ) (blocks : JobBlocks) (t : TrackState ℕ) (p : Placement) : Type 0 where
   pub question : question_at task t.executed ≡ Some (question_by p.op (operands_in blocks p.op t.cells))
   pub line_is : line_at task t.executed ≡ Some p.line
@@ -81,10 +77,3 @@ pub record IsPlaceable (task : Task) (job : ℕ) (blocks : JobBlocks) (t : Track
   pub deep : operand_count p.op ≤ length t.cells
   pub own : AreOwn job blocks (taken_ids p.op t.cells)
   pub room : held_words job blocks + p.first + p.second ≤ task.limits.words
-
--- the instruction is executed, and the job goes on or has returned
-pub record Carries (job : ℕ) (task : Task) (old new : SlotState) (on : Bool) : Type 0 where
-  pub goes_on : on ≡ true →
-      next_standing (event.Finish job) task (standing_of old) ≡ Some (Live (old.trace.executed + 1))
-  pub returned : on ≡ false → next_standing (event.Finish job) task (standing_of old) ≡ Some Ended
-  pub standing : Some (standing_of new) ≡ next_standing (event.Finish job) task (standing_of old)

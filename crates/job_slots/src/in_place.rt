@@ -132,32 +132,10 @@ impl Rewriter for Overlay {
     }
 }
 
-/// How the next instruction of a job computes its results where they are placed. None if its first result has few
-/// words, if its operand is not on the stack, or if the job's words have no room for the results beside its operands.
+/// How the next instruction of a job, which is no `CONST`, computes its results where they are placed. None if its
+/// first result has few words, or if the job's words have no room for the results beside its operands.
 #[inline(always)]
 pub(crate) fn placement_of<A: Allocator>(
-    turn: Turn,
-    job: &Job<A>,
-    track: &Track<BlockId, A>,
-    blocks: &JobMemory<A>,
-    ready: Ready,
-) -> Option<Placement>
-    requires running { IsRunningSlot (own_slots turn.number blocks.now) (ruled turn.rule job.now) track.now }
-    requires verified { IsVerified (ruled turn.rule job.now) }
-    requires is_job { IsJob blocks.now turn.number }
-    requires ready { (sources : List (List ℤ))
-        × IsReady (ruled turn.rule job.now) turn.number blocks.now track.now sources ready }
-    ensures { IfSome result (IsPlaceable (ruled turn.rule job.now) turn.number blocks.now track.now) }
-{
-    match ready.op {
-        Op::Elementwise(_) | Op::Segmented(_) => placement_of_long(turn, job, track, blocks, ready),
-        Op::Const(_) | Op::If | Op::Move(..) | Op::Call | Op::Return => None,
-    }
-}
-
-/// The same for an instruction of a class that may have such a result.
-#[inline(always)]
-fn placement_of_long<A: Allocator>(
     turn: Turn,
     job: &Job<A>,
     track: &Track<BlockId, A>,
@@ -203,7 +181,7 @@ fn placement_of_long<A: Allocator>(
     })
 }
 
-/// How many results an instruction has whose second one has so many words.
+/// How many results an instruction has, by the words of its second one.
 fn result_count(second: usize) -> usize
     ensures { result ≡ result_count second }
 {

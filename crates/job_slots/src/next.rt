@@ -126,6 +126,7 @@ pub(crate) fn next_at<'a, A: Allocator>(
     requires settled { IsSettled (functions_of job.now.verified) track.now.frames }
     requires op { IsOpOfNext (ruled turn.rule job.now) track.now op }
     requires no_list { is_constant op ≡ false }
+    ensures op { result.op ≡ op }
     ensures next { IsNext (ruled turn.rule job.now) track.now.executed result.op result.line
         (contents (take result.operands.count result.operands.lists)) }
     ensures kinds { HaveKinds (source_kinds result.op) (contents (take result.operands.count result.operands.lists)) }

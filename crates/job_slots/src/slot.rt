@@ -23,14 +23,14 @@ ghost use Rattle.job_slots.specs.Lines.{HasNoOperands, IsListOfNext, IsOpOfNext}
 ghost use Rattle.job_slots.specs.declared.status.Status.TheVariants as status;
 ghost use Rattle.job_slots.specs.declared.answer.Finished.TheVariants as finished;
 ghost use Rattle.job_slots.specs.declared.answer.Stepped.TheVariants as stepped;
-ghost use Rattle.job_slots.specs.InPlace.{Carries, IsPlaceable, is_constant, operands_in};
+ghost use Rattle.job_slots.specs.InPlace.{IsPlaceable, is_constant};
 ghost use Rattle.job_slots.specs.Holdings.{HoldSomeStack, HoldNothing};
 ghost use Rattle.job_slots.specs.Slots.{Shows, Leaves, IsActive, IsNewSlot, IsReturned, standing_of, told_outcome};
 ghost use Rattle.job_slots.specs.Slots.{HasNumbersOnRun, MayEnd, recalled_slot};
 ghost use Rattle.job_slots.specs.Answers.{Begins, IsPutOff, Finishes, Fits, IsEnding, is_ended, is_in_flight};
 ghost use Rattle.job_slots.specs.Answers.{HasRun, is_live, or_same, question_at, standing_after_begun};
 ghost use Rattle.job_slots.specs.Answers.{standing_after_finished};
-ghost use Rattle.job_slots.specs.Answers.{Steps, IsPassedOver, after_stepped, standing_after_step};
+ghost use Rattle.job_slots.specs.Answers.{CanStep, Steps, TakesStep, IsPassedOver, after_stepped, standing_after_step};
 
 use crate::answer::{Begun, Finished, Stepped};
 use crate::class::{self, Class};
@@ -350,9 +350,12 @@ impl<A: Allocator> Slot<A> {
         if desk.words() < job.limits().words {
             return Stepped::SmallDesk;
         }
-        let stepped = self.step_live(turn, job, blocks, desk);
-        self.settle_live(turn, job, blocks);
-        stepped
+        if self.step_live(turn, job, blocks, desk) {
+            self.settle(turn, job, blocks);
+            Stepped::Done
+        } else {
+            Stepped::Ended
+        }
     }
 
     /// Carries out the instructions of the job, if it is live, until it is over. The desk, which has at least the job's
@@ -377,13 +380,13 @@ impl<A: Allocator> Slot<A> {
             Status::Waiting | Status::InFlight | Status::Ended | Status::Collected => return,
         }
         let _used = blocks.used();
-        while let Stepped::Done = self.step_live(turn, job, blocks, desk) {
+        while self.step_live(turn, job, blocks, desk) {
             // By its type a memory has no block that no reference names.
             let _used = blocks.used();
         }
     }
 
-    /// Carries out the next instruction of a job that is live, by its class.
+    /// Carries out the next instruction of a job that is live: true if it goes on after it.
     #[inline(always)]
     fn step_live(
         &mut self,
@@ -391,20 +394,34 @@ impl<A: Allocator> Slot<A> {
         job: &Job<A>,
         blocks: &mut JobMemory<A>,
         desk: &mut Desk<A>,
-    ) -> Stepped
+    ) -> bool
         requires shows { Shows turn.number blocks.old (ruled turn.rule job.now) self.old }
         requires live { self.old.status ≡ status.Live }
         requires numbers { block_count blocks.old.memory + 2 ≤ length blocks.old.memory.slots }
         requires enough { job.now.limits.words ≤ desk.old }
-        ensures answer { Steps turn.number desk.old (ruled turn.rule job.now) (standing_of self.old) result }
-        ensures shows { Shows turn.number blocks.new (ruled turn.rule job.now) self.new }
-        ensures others { ChangesOnlyOf turn.number blocks.old blocks.new }
-        ensures standing { standing_of self.new
-            ≡ standing_after_step turn.number (ruled turn.rule job.now) (standing_of self.old) }
+        ensures steps { TakesStep turn.number (ruled turn.rule job.now) self.old.trace.executed blocks.old self.new
+            blocks.new result }
         ensures desk { desk.new ≡ desk.old }
-        ensures steps { IsPassedOver result → ⊥ }
     {
         self.settle(turn, job, blocks);
+        self.step_settled(turn, job, blocks, desk)
+    }
+
+    /// The same of a job whose track is at the line of that instruction, by the class of the instruction.
+    #[inline(always)]
+    fn step_settled(
+        &mut self,
+        turn: Turn,
+        job: &Job<A>,
+        blocks: &mut JobMemory<A>,
+        desk: &mut Desk<A>,
+    ) -> bool
+        requires can { CanStep turn.number (ruled turn.rule job.now) self.old blocks.old }
+        requires enough { job.now.limits.words ≤ desk.old }
+        ensures steps { TakesStep turn.number (ruled turn.rule job.now) self.old.trace.executed blocks.old self.new
+            blocks.new result }
+        ensures desk { desk.new ≡ desk.old }
+    {
         let line = settled_line(turn, job, &self.track, blocks);
         match &line.item {
             CodeItem::Do(Instr::Const(elements, list)) => {
@@ -443,19 +460,6 @@ impl<A: Allocator> Slot<A> {
         }
     }
 
-    /// Passes over each `ELSE` and `ENDIF` before the next instruction of the job, if it is live.
-    #[inline(always)]
-    fn settle_live(&mut self, turn: Turn, job: &Job<A>, blocks: &JobMemory<A>)
-        requires { Shows turn.number blocks.now (ruled turn.rule job.now) self.old }
-        ensures shows { Shows turn.number blocks.now (ruled turn.rule job.now) self.new }
-        ensures same_standing { standing_of self.new ≡ standing_of self.old }
-    {
-        match self.status {
-            Status::Live => self.settle(turn, job, blocks),
-            Status::Waiting | Status::InFlight | Status::Ended | Status::Collected => {}
-        }
-    }
-
     /// Passes over each `ELSE` and `ENDIF` before the next instruction of the job, which is live.
     #[inline(always)]
     fn settle(&mut self, turn: Turn, job: &Job<A>, blocks: &JobMemory<A>)
@@ -463,7 +467,7 @@ impl<A: Allocator> Slot<A> {
         requires live { self.old.status ≡ status.Live }
         ensures shows { Shows turn.number blocks.now (ruled turn.rule job.now) self.new }
         ensures still_live { self.new.status ≡ status.Live }
-        ensures same_standing { standing_of self.new ≡ standing_of self.old }
+        ensures same_count { self.new.trace.executed ≡ self.old.trace.executed }
         ensures settled { IsSettled (functions_of job.now.verified) self.new.trace.frames }
     {
         steps_can_begin::<BlockId>();
@@ -479,20 +483,13 @@ impl<A: Allocator> Slot<A> {
         blocks: &mut JobMemory<A>,
         desk: &mut Desk<A>,
         op: Segmented,
-    ) -> Stepped
-        requires shows { Shows turn.number blocks.old (ruled turn.rule job.now) self.old }
-        requires live { self.old.status ≡ status.Live }
-        requires numbers { block_count blocks.old.memory + 2 ≤ length blocks.old.memory.slots }
-        requires settled { IsSettled (functions_of job.now.verified) self.old.trace.frames }
+    ) -> bool
+        requires can { CanStep turn.number (ruled turn.rule job.now) self.old blocks.old }
         requires enough { job.now.limits.words ≤ desk.old }
         requires next { IsOpOfNext (ruled turn.rule job.now) self.old.trace (instruction.Segmented op) }
-        ensures answer { Steps turn.number desk.old (ruled turn.rule job.now) (standing_of self.old) result }
-        ensures shows { Shows turn.number blocks.new (ruled turn.rule job.now) self.new }
-        ensures others { ChangesOnlyOf turn.number blocks.old blocks.new }
-        ensures standing { standing_of self.new
-            ≡ standing_after_step turn.number (ruled turn.rule job.now) (standing_of self.old) }
+        ensures steps { TakesStep turn.number (ruled turn.rule job.now) self.old.trace.executed blocks.old self.new
+            blocks.new result }
         ensures desk { desk.new ≡ desk.old }
-        ensures steps { IsPassedOver result → ⊥ }
     {
         match op {
             Segmented::Scan(it) => { self.step_as(turn, job, blocks, desk, class::Scan(it)) }
@@ -525,23 +522,15 @@ impl<A: Allocator> Slot<A> {
         blocks: &mut JobMemory<A>,
         desk: &mut Desk<A>,
         class: C,
-    ) -> Stepped
-        requires shows { Shows turn.number blocks.old (ruled turn.rule job.now) self.old }
-        requires live { self.old.status ≡ status.Live }
-        requires settled { IsSettled (functions_of job.now.verified) self.old.trace.frames }
-        requires numbers { block_count blocks.old.memory + 2 ≤ length blocks.old.memory.slots }
+    ) -> bool
+        requires can { CanStep turn.number (ruled turn.rule job.now) self.old blocks.old }
         requires enough { job.now.limits.words ≤ desk.old }
         requires next { IsOpOfNext (ruled turn.rule job.now) self.old.trace (C.among_all class) }
         requires no_list { is_constant (C.among_all class) ≡ false }
-        ensures answer { Steps turn.number desk.old (ruled turn.rule job.now) (standing_of self.old) result }
-        ensures shows { Shows turn.number blocks.new (ruled turn.rule job.now) self.new }
-        ensures others { ChangesOnlyOf turn.number blocks.old blocks.new }
-        ensures standing { standing_of self.new
-            ≡ standing_after_step turn.number (ruled turn.rule job.now) (standing_of self.old) }
+        ensures steps { TakesStep turn.number (ruled turn.rule job.now) self.old.trace.executed blocks.old self.new
+            blocks.new result }
         ensures desk { desk.new ≡ desk.old }
-        ensures steps { IsPassedOver result → ⊥ }
     {
-        changes_join();
         early_ends_end();
         others_are_ready();
         end_is_own();
@@ -571,7 +560,7 @@ impl<A: Allocator> Slot<A> {
                     second,
                     words: needs.words,
                 };
-                self.take_results::<C>(turn, job, blocks, made)
+                self.carry_out::<C>(turn, job, blocks, made)
             }
             Err(fault) => self.end_by_step(turn, job, blocks, Outcome::Fault(fault, line)),
         }
@@ -586,21 +575,13 @@ impl<A: Allocator> Slot<A> {
         blocks: &mut JobMemory<A>,
         class: C,
         list: &[i64],
-    ) -> Stepped
-        requires shows { Shows turn.number blocks.old (ruled turn.rule job.now) self.old }
-        requires live { self.old.status ≡ status.Live }
-        requires settled { IsSettled (functions_of job.now.verified) self.old.trace.frames }
-        requires numbers { block_count blocks.old.memory + 2 ≤ length blocks.old.memory.slots }
+    ) -> bool
+        requires can { CanStep turn.number (ruled turn.rule job.now) self.old blocks.old }
         requires next { IsOpOfNext (ruled turn.rule job.now) self.old.trace (C.among_all class) }
         requires list { IsListOfNext (ruled turn.rule job.now) self.old.trace list.now }
         requires no_operands { HasNoOperands (C.among_all class) }
-        ensures answer { (words : ℕ) → job.now.limits.words ≤ words
-            → Steps turn.number words (ruled turn.rule job.now) (standing_of self.old) result }
-        ensures shows { Shows turn.number blocks.new (ruled turn.rule job.now) self.new }
-        ensures others { ChangesOnlyOf turn.number blocks.old blocks.new }
-        ensures standing { standing_of self.new
-            ≡ standing_after_step turn.number (ruled turn.rule job.now) (standing_of self.old) }
-        ensures steps { IsPassedOver result → ⊥ }
+        ensures { TakesStep turn.number (ruled turn.rule job.now) self.old.trace.executed blocks.old self.new blocks.new
+            result }
     {
         steps_can_begin::<BlockId>();
         let op = class.op();
@@ -615,7 +596,7 @@ impl<A: Allocator> Slot<A> {
                     second: &[],
                     words,
                 };
-                self.take_results::<C>(turn, job, blocks, made)
+                self.carry_out::<C>(turn, job, blocks, made)
             }
             None => self.end_early(turn, job, blocks),
         }
@@ -624,17 +605,11 @@ impl<A: Allocator> Slot<A> {
     /// Ends the job, which is live, and ends before the values of its next instruction are looked at.
     #[cold]
     #[inline(never)]
-    fn end_early(&mut self, turn: Turn, job: &Job<A>, blocks: &mut JobMemory<A>) -> Stepped
-        requires shows { Shows turn.number blocks.old (ruled turn.rule job.now) self.old }
-        requires live { self.old.status ≡ status.Live }
+    fn end_early(&mut self, turn: Turn, job: &Job<A>, blocks: &mut JobMemory<A>) -> bool
+        requires can { CanStep turn.number (ruled turn.rule job.now) self.old blocks.old }
         requires ends { is_some (early_end_at (ruled turn.rule job.now) self.old.trace.executed) ≡ true }
-        ensures answer { (words : ℕ) → job.now.limits.words ≤ words
-            → Steps turn.number words (ruled turn.rule job.now) (standing_of self.old) result }
-        ensures shows { Shows turn.number blocks.new (ruled turn.rule job.now) self.new }
-        ensures others { ChangesOnlyOf turn.number blocks.old blocks.new }
-        ensures standing { standing_of self.new
-            ≡ standing_after_step turn.number (ruled turn.rule job.now) (standing_of self.old) }
-        ensures steps { IsPassedOver result → ⊥ }
+        ensures { TakesStep turn.number (ruled turn.rule job.now) self.old.trace.executed blocks.old self.new blocks.new
+            result }
     {
         early_ends_end();
         let next = read_next(turn, job, &self.track, blocks);
@@ -644,7 +619,7 @@ impl<A: Allocator> Slot<A> {
         self.end_by_step(turn, job, blocks, ending)
     }
 
-    /// Ends the job, which runs, as its next instruction ends it.
+    /// Ends the job, which is live, as its next instruction ends it: the job doesn't go on.
     #[cold]
     #[inline(never)]
     fn end_by_step(
@@ -653,51 +628,15 @@ impl<A: Allocator> Slot<A> {
         job: &Job<A>,
         blocks: &mut JobMemory<A>,
         ending: Outcome<Values<A>>,
-    ) -> Stepped
-        requires shows { Shows turn.number blocks.old (ruled turn.rule job.now) self.old }
-        requires active { IsActive self.old.status }
+    ) -> bool
+        requires can { CanStep turn.number (ruled turn.rule job.now) self.old blocks.old }
         requires ends { EndsByStep turn.number (ruled turn.rule job.now) self.old.trace.executed self.old.trace.peak
             ending }
-        ensures answer { (words : ℕ) → job.now.limits.words ≤ words
-            → Steps turn.number words (ruled turn.rule job.now) (Live self.old.trace.executed) result }
-        ensures shows { Shows turn.number blocks.new (ruled turn.rule job.now) self.new }
-        ensures others { ChangesOnlyOf turn.number blocks.old blocks.new }
-        ensures standing { standing_of self.new
-            ≡ standing_after_step turn.number (ruled turn.rule job.now) (Live self.old.trace.executed) }
-        ensures steps { IsPassedOver result → ⊥ }
+        ensures { TakesStep turn.number (ruled turn.rule job.now) self.old.trace.executed blocks.old self.new blocks.new
+            result }
     {
         self.end(turn, job, blocks, ending);
-        Stepped::Ended
-    }
-
-    /// Executes the next instruction of a job that is live, which makes this.
-    fn take_results<C: Class>(
-        &mut self,
-        turn: Turn,
-        job: &Job<A>,
-        blocks: &mut JobMemory<A>,
-        made: Made<'_>,
-    ) -> Stepped
-        requires shows { Shows turn.number blocks.old (ruled turn.rule job.now) self.old }
-        requires live { self.old.status ≡ status.Live }
-        requires settled { IsSettled (functions_of job.now.verified) self.old.trace.frames }
-        requires goes_on { early_end_at (ruled turn.rule job.now) self.old.trace.executed ≡ None }
-        requires made { IsMade (ruled turn.rule job.now) turn.number blocks.old self.old.trace made }
-        requires numbers { block_count blocks.old.memory + 2 ≤ length blocks.old.memory.slots }
-        ensures answer { (words : ℕ) → job.now.limits.words ≤ words
-            → Steps turn.number words (ruled turn.rule job.now) (standing_of self.old) result }
-        ensures shows { Shows turn.number blocks.new (ruled turn.rule job.now) self.new }
-        ensures others { ChangesOnlyOf turn.number blocks.old blocks.new }
-        ensures standing { standing_of self.new
-            ≡ standing_after_step turn.number (ruled turn.rule job.now) (standing_of self.old) }
-        ensures steps { IsPassedOver result → ⊥ }
-    {
-        self.status = Status::InFlight;
-        if self.carry_out::<C>(turn, job, blocks, made) {
-            Stepped::Done
-        } else {
-            Stepped::Ended
-        }
+        false
     }
 
     /// Carries out the next instruction of a job that is live, whose results are computed where they are placed. What
@@ -710,76 +649,26 @@ impl<A: Allocator> Slot<A> {
         blocks: &mut JobMemory<A>,
         placement: Placement,
         beside: &mut [i64],
-    ) -> Stepped
-        requires shows { Shows turn.number blocks.old (ruled turn.rule job.now) self.old }
-        requires live { self.old.status ≡ status.Live }
-        requires settled { IsSettled (functions_of job.now.verified) self.old.trace.frames }
+    ) -> bool
+        requires can { CanStep turn.number (ruled turn.rule job.now) self.old blocks.old }
         requires goes_on { early_end_at (ruled turn.rule job.now) self.old.trace.executed ≡ None }
         requires placeable { IsPlaceable (ruled turn.rule job.now) turn.number blocks.old self.old.trace placement }
         requires lent { length beside.old ≡ placement.second }
-        requires numbers { block_count blocks.old.memory + 2 ≤ length blocks.old.memory.slots }
-        ensures answer { (words : ℕ) → job.now.limits.words ≤ words
-            → Steps turn.number words (ruled turn.rule job.now) (standing_of self.old) result }
-        ensures shows { Shows turn.number blocks.new (ruled turn.rule job.now) self.new }
-        ensures others { ChangesOnlyOf turn.number blocks.old blocks.new }
-        ensures standing { standing_of self.new
-            ≡ standing_after_step turn.number (ruled turn.rule job.now) (standing_of self.old) }
-        ensures steps { IsPassedOver result → ⊥ }
-    {
-        end_is_own();
-        others_are_ready();
-        changes_join();
-        self.status = Status::InFlight;
-        match self.carry_out_in_place(turn, job, blocks, placement, beside) {
-            Ok(goes_on) => {
-                if goes_on {
-                    Stepped::Done
-                } else {
-                    Stepped::Ended
-                }
-            }
-            Err(fault) => {
-                let ending = Outcome::Fault(fault, placement.line);
-                self.end(turn, job, blocks, ending);
-                Stepped::Ended
-            }
-        }
-    }
-
-    /// Executes the instruction of the step in flight, whose results are computed where they are placed: true if the
-    /// job goes on after it, and false if it has returned.
-    ///
-    /// # Errors
-    ///
-    /// The fault that the values of the operands have. The job can end by it then.
-    fn carry_out_in_place(
-        &mut self,
-        turn: Turn,
-        job: &Job<A>,
-        blocks: &mut JobMemory<A>,
-        placement: Placement,
-        beside: &mut [i64],
-    ) -> Result<bool, DataFault>
-        requires shows { Shows turn.number blocks.old (ruled turn.rule job.now) self.old }
-        requires flying { self.old.status ≡ status.InFlight }
-        requires placeable { IsPlaceable (ruled turn.rule job.now) turn.number blocks.old self.old.trace placement }
-        requires lent { length beside.old ≡ placement.second }
-        requires numbers { block_count blocks.old.memory + 2 ≤ length blocks.old.memory.slots }
-        ensures carried { IfOk result (Carries turn.number (ruled turn.rule job.now) self.old self.new) }
-        ensures shows { OnOk result (Shows turn.number blocks.new (ruled turn.rule job.now) self.new) }
-        ensures others { ChangesOnlyOf turn.number blocks.old blocks.new }
-        ensures unchanged { OnErr result (self.new ≡ self.old) }
-        ensures may_end { OnErr result (MayEnd turn.number blocks.new (ruled turn.rule job.now) self.new) }
-        ensures fault { IfErr result (λ fault.
-            value_fault placement.op (operands_in blocks.old placement.op self.old.trace.cells) ≡ Some fault) }
+        ensures { TakesStep turn.number (ruled turn.rule job.now) self.old.trace.executed blocks.old self.new blocks.new
+            result }
     {
         reached();
         end_is_own();
-        let op = placement.op;
+        others_are_ready();
+        changes_join();
+        let Placement { op, line, .. } = placement;
         let due = Due { turn, placement };
         match execute_in_place(due, job, &mut self.track, blocks, beside) {
-            Ok(()) => Ok(self.go_on(op)),
-            Err(fault) => Err(fault),
+            Ok(()) => self.go_on(op),
+            Err(fault) => {
+                self.end(turn, job, blocks, Outcome::Fault(fault, line));
+                false
+            }
         }
     }
 
@@ -889,6 +778,7 @@ impl<A: Allocator> Slot<A> {
                 Finished::Ended
             }
             Ok(made) => {
+                self.status = Status::Live;
                 if self.carry_out::<Op>(turn, job, blocks, made) {
                     Finished::Done
                 } else {
@@ -898,8 +788,8 @@ impl<A: Allocator> Slot<A> {
         }
     }
 
-    /// Executes the instruction of the step in flight, which makes this: true if the job goes on after it, and false if
-    /// it has returned.
+    /// Executes the next instruction of a job that is live, which makes this: true if the job goes on after it, and
+    /// false if it has returned.
     fn carry_out<C: Class>(
         &mut self,
         turn: Turn,
@@ -907,19 +797,11 @@ impl<A: Allocator> Slot<A> {
         blocks: &mut JobMemory<A>,
         made: Made<'_>,
     ) -> bool
-        requires shows { Shows turn.number blocks.old (ruled turn.rule job.now) self.old }
-        requires flying { self.old.status ≡ status.InFlight }
+        requires can { CanStep turn.number (ruled turn.rule job.now) self.old blocks.old }
+        requires goes_on { early_end_at (ruled turn.rule job.now) self.old.trace.executed ≡ None }
         requires made { IsMade (ruled turn.rule job.now) turn.number blocks.old self.old.trace made }
-        requires numbers { block_count blocks.old.memory + 2 ≤ length blocks.old.memory.slots }
-        ensures goes_on { result ≡ true
-            → next_standing (event.Finish turn.number) (ruled turn.rule job.now) (standing_of self.old)
-            ≡ Some (Live (self.old.trace.executed + 1)) }
-        ensures returned { result ≡ false
-            → next_standing (event.Finish turn.number) (ruled turn.rule job.now) (standing_of self.old) ≡ Some Ended }
-        ensures shows { Shows turn.number blocks.new (ruled turn.rule job.now) self.new }
-        ensures others { ChangesOnlyOf turn.number blocks.old blocks.new }
-        ensures standing { Some (standing_of self.new)
-            ≡ next_standing (event.Finish turn.number) (ruled turn.rule job.now) (standing_of self.old) }
+        ensures { TakesStep turn.number (ruled turn.rule job.now) self.old.trace.executed blocks.old self.new blocks.new
+            result }
     {
         reached();
         end_is_own();
@@ -928,44 +810,27 @@ impl<A: Allocator> Slot<A> {
         self.go_on(op)
     }
 
-    /// After this instruction: true if the job runs on, and false if it has returned and its results are on its stack.
-    /// Only a `RET` can leave no call.
+    /// After this instruction: true if the job, which is live, goes on, and false if it has returned and its results
+    /// are on its stack. Only a `RET` can leave no call.
     #[inline(always)]
     fn go_on(&mut self, op: Op) -> bool
         requires { (op ≡ Return → ⊥) → 0 < length self.old.trace.frames }
-        ensures done { result ≡ true → (0 < length self.old.trace.frames)
-            × (self.new ≡ record self.old { status = status.Live }) }
+        ensures on { result ≡ true → (0 < length self.old.trace.frames) × (self.new ≡ self.old) }
         ensures ended { result ≡ false → (self.old.trace.frames ≡ [])
             × (self.new ≡ record self.old { status = status.Ended; outcome = None }) }
     {
         match op {
-            Op::Return => self.go_on_after_return(),
+            Op::Return if self.track.calls() == 0 => {
+                self.has_returned();
+                false
+            }
             Op::Const(_)
             | Op::Elementwise(_)
             | Op::Segmented(_)
             | Op::If
             | Op::Move(..)
-            | Op::Call => {
-                self.status = Status::Live;
-                true
-            }
-        }
-    }
-
-    /// The same after a `RET`.
-    #[inline(always)]
-    fn go_on_after_return(&mut self) -> bool
-        ensures done { result ≡ true → (0 < length self.old.trace.frames)
-            × (self.new ≡ record self.old { status = status.Live }) }
-        ensures ended { result ≡ false → (self.old.trace.frames ≡ [])
-            × (self.new ≡ record self.old { status = status.Ended; outcome = None }) }
-    {
-        if self.track.calls() == 0 {
-            self.has_returned();
-            false
-        } else {
-            self.status = Status::Live;
-            true
+            | Op::Call
+            | Op::Return => true,
         }
     }
 

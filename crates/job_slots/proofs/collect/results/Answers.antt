@@ -1,3 +1,4 @@
+-- The vectors that are copied, one for each cell and kind, are the results of the job.
 use Rattle.std.proofs.Common.{rules, ◌≡◌, ℕ, [], ◌∷◌, ◌++◌, length, get_or, ◌∙◌, ap, sym, refl, arith}
 use Rattle.std.proofs.lemmas.List.{length-append}
 use Rattle.std.proofs.lemmas.Slice.Zip.{zip_turn, zip_end}

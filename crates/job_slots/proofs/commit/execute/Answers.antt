@@ -1,4 +1,5 @@
-use Rattle.std.proofs.Common.{◌+◌, List, ℕ, length, refl, ◌∙◌, ap, subst, arith}
+-- An instruction whose results are given is executed: the track goes past it, and its blocks have the results.
+use Rattle.std.proofs.Common.{◌+◌, length, refl, ap, arith}
 use Rattle.job_memory.specs.JobBlocks.{words_of}
 use Rattle.job_steps.specs.States.{ruled}
 use Rattle.job_steps.specs.Tracks.{Advances}
@@ -10,19 +11,15 @@ use Rattle.job_slots.proofs.commit.execute.Goals as goal
 use Rattle.job_slots.proofs.commit.execute.Goals.{After-used-used, After-advance_settled}
 
 -- what is known of the instruction
-can : (g : Over) (c : goal.After-used-used g) →
-    CanExecute c.args.turn.number c.args.blocks.now (ruled c.args.turn.rule c.args.job.now) c.args.track.now
-    c.args.made.op c.args.made.flag
-    c.args.made.first.now c.args.made.second.now
+can : (g : Over) (c : After-used-used g) → CanExecute c.args.turn.number c.args.blocks.now
+    (ruled c.args.turn.rule c.args.job.now) c.args.track.now c.args.made.op c.args.made.flag c.args.made.first.now
+    c.args.made.second.now
 can g c =
-    c.steps_execute.ensures c.args.turn.number c.args.blocks.now (ruled c.args.turn.rule c.args.job.now)
-    c.args.track.now
-    c.args.made.op c.args.made.flag c.args.made.first.now c.args.made.second.now c.requires.flying c.requires.verified
-    c.used-used.ensures.tidy c.requires.made.answered
+    c.steps_execute.ensures _ _ _ _ _ _ _ _ c.requires.flying c.requires.verified c.used-used.ensures.tidy
+    c.requires.made.answered
 
 pub settle-results-requires-clause-two : goal.settle-results-requires-clause-two
-settle-results-requires-clause-two g c =
-    (can g (goal.at.settle-results-requires-clause-two g c).After-used-used).two
+settle-results-requires-clause-two g c = (can g (goal.at.settle-results-requires-clause-two g c).After-used-used).two
 
 pub settle-results-requires-clause-room : goal.settle-results-requires-clause-room
 settle-results-requires-clause-room g c =
@@ -33,60 +30,34 @@ pub settle-results-requires-clause-can : goal.settle-results-requires-clause-can
 settle-results-requires-clause-can g c =
     (can g (goal.at.settle-results-requires-clause-can g c).After-used-used).can_settle
 
-pub advance_settled-requires-clause-budget : goal.advance_settled-requires-clause-budget
-advance_settled-requires-clause-budget g c =
-    (can g (goal.at.advance_settled-requires-clause-budget g c).After-used-used).goes_past.unspent
-
-pub advance_settled-requires-clause-deep : goal.advance_settled-requires-clause-deep
-advance_settled-requires-clause-deep g c =
-    (can g (goal.at.advance_settled-requires-clause-deep g c).After-used-used).goes_past.deep
-
-pub advance_settled-requires-clause-cells : goal.advance_settled-requires-clause-cells
-advance_settled-requires-clause-cells g c =
-    (can g (goal.at.advance_settled-requires-clause-cells g c).After-used-used).goes_past.cells
-
-pub advance_settled-requires-clause-calls : goal.advance_settled-requires-clause-calls
-advance_settled-requires-clause-calls g c =
-    (can g (goal.at.advance_settled-requires-clause-calls g c).After-used-used).goes_past.follows
-
-pub advance_settled-requires-clause-given : goal.advance_settled-requires-clause-given
-advance_settled-requires-clause-given g c = omega (
-  arith,
-  ap length c.as_slice.ensures,
-  c.settle-results.ensures.settled.1.given,
-)
+pub advance_settled-requires : goal.advance_settled-requires
+advance_settled-requires g c =
+    let past = (can g (goal.at.advance_settled-requires g c).After-used-used).goes_past in
+    record {
+      budget = past.unspent;
+      deep = past.deep;
+      given = omega (arith, ap length c.as_slice.ensures, c.settle-results.ensures.settled.1.given);
+      cells = past.cells;
+      calls = past.follows;
+      settled = c.requires.flying.settled;
+    }
 
 -- the track goes past as if what is held and needed counted
 counted : (g : Over) (c : goal.After-advance_settled g) →
     Advances c.args.job.now.verified c.args.made.op c.args.made.flag c.as_slice.result.now
-    (held_under c.args.turn.rule c.args.turn.number c.args.made.op c.args.track.now.cells c.args.blocks.now
-    + length c.args.made.first.now + length c.args.made.second.now) c.args.track.now c.advance_settled.new.self
-counted g c =
-    let past = c.advance_settled.ensures.advances in
-    record {
-      limits = past.limits;
-      cells = past.cells;
-      frames = past.frames;
-      executed = past.executed;
-      peak = past.peak ∙ c.requires.made.counted;
-    }
+    (held_under c.args.turn.rule c.args.turn.number c.args.made.op c.args.track.now.cells c.args.blocks.now + length
+    c.args.made.first.now + length c.args.made.second.now) c.args.track.now c.advance_settled.new.self
+counted g c = grind arith
 
 -- the instruction is executed
-executed : (g : Over) (c : goal.After-advance_settled g) →
-    IsExecuted c.args.turn.number c.args.blocks.now c.settle-results.new.blocks (ruled c.args.turn.rule c.args.job.now)
-    c.args.track.now c.advance_settled.new.self
+executed : (g : Over) (c : goal.After-advance_settled g) → IsExecuted c.args.turn.number c.args.blocks.now
+    c.settle-results.new.blocks (ruled c.args.turn.rule c.args.job.now) c.args.track.now c.advance_settled.new.self
 executed g c =
     executed_past (can g (goal.at.returns-clause-after g c).After-used-used) c.settle-results.ensures.settled.1 refl
-    (subst (λ (ids : List ℕ). Advances c.args.job.now.verified c.args.made.op c.args.made.flag ids
-    (held_under c.args.turn.rule c.args.turn.number c.args.made.op c.args.track.now.cells c.args.blocks.now
-    + length c.args.made.first.now + length c.args.made.second.now) c.args.track.now c.advance_settled.new.self)
-    c.as_slice.ensures (counted g c))
+    (rw (← c.as_slice.ensures) (counted g c))
 
 pub returns-clause-after : goal.returns-clause-after
 returns-clause-after g c = (executed g c).after
 
 pub returns-clause-others : goal.returns-clause-others
 returns-clause-others g c = (executed g c).others
-
-pub advance_settled-requires-clause-settled : goal.advance_settled-requires-clause-settled
-advance_settled-requires-clause-settled g c = c.requires.flying.settled

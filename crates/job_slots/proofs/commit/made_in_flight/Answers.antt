@@ -1,3 +1,4 @@
+-- The results of a step in flight are those of its instruction, and their words are counted.
 use Rattle.std.proofs.Common.{arith}
 use Rattle.job_steps.specs.States.{ruled}
 use Rattle.job_slots.specs.Answers.{IsAnswered}
@@ -8,29 +9,20 @@ use Rattle.job_slots.proofs.commit.made_in_flight.Goals as goal
 use Rattle.job_slots.proofs.commit.made_in_flight.Goals.{After-flag-flag}
 
 -- the results are those of the next instruction
-answered : (g : Over) (c : After-flag-flag g) →
-    IsAnswered (ruled c.args.turn.rule c.args.job.now) c.args.track.now.executed c.op-op.result c.flag-flag.result
-    c.in-Ok.first.now c.in-Ok.second.now
-answered g c = record {
-  question = c.args.filled.now.question;
-  asked = c.requires.asked;
-  op_is = c.op-op.ensures;
-  flag_is = c.flag-flag.ensures;
-  results = c.in-Ok.ensures;
-}
+answered : (g : Over) (c : After-flag-flag g) → IsAnswered (ruled c.args.turn.rule c.args.job.now)
+    c.args.track.now.executed c.op-op.result c.flag-flag.result c.in-Ok.first.now c.in-Ok.second.now
+answered g c = grind arith
 
 -- what is known of the instruction
-can : (g : Over) (c : After-flag-flag g) →
-    CanExecute c.args.turn.number c.args.blocks.now (ruled c.args.turn.rule c.args.job.now) c.args.track.now
-    c.op-op.result c.flag-flag.result c.in-Ok.first.now c.in-Ok.second.now
+can : (g : Over) (c : After-flag-flag g) → CanExecute c.args.turn.number c.args.blocks.now
+    (ruled c.args.turn.rule c.args.job.now) c.args.track.now c.op-op.result c.flag-flag.result c.in-Ok.first.now
+    c.in-Ok.second.now
 can g c =
-    c.steps_execute.ensures c.args.turn.number c.args.blocks.now (ruled c.args.turn.rule c.args.job.now)
-    c.args.track.now c.op-op.result c.flag-flag.result c.in-Ok.first.now c.in-Ok.second.now c.requires.flying
-    c.requires.verified c.used-used.ensures.tidy (answered g c)
+    c.steps_execute.ensures _ _ _ _ _ _ _ _ c.requires.flying c.requires.verified c.used-used.ensures.tidy
+    (answered g c)
 
 pub held_under-requires-clause-own : goal.held_under-requires-clause-own
-held_under-requires-clause-own g c =
-    (can g (goal.at.held_under-requires-clause-own g c).After-flag-flag).can_settle.own
+held_under-requires-clause-own g c = (can g (goal.at.held_under-requires-clause-own g c).After-flag-flag).can_settle.own
 
 pub held_under-requires-clause-deep : goal.held_under-requires-clause-deep
 held_under-requires-clause-deep g c =
@@ -47,7 +39,4 @@ overflow_add-words-in-Ok g c =
     omega (arith, known.room, c.held_under.ensures, c.args.job.now.limits.words_in_range)
 
 pub returns-in-Ok : goal.returns-in-Ok
-returns-in-Ok g c = record {
-  answered = answered g (goal.at.returns-in-Ok g c).After-flag-flag;
-  counted = omega (arith, c.held_under.ensures);
-}
+returns-in-Ok g c = grind (arith, answered, After-flag-flag)

@@ -6,13 +6,7 @@ pub exchange-requires-clause-deep : goal.exchange-requires-clause-deep
 exchange-requires-clause-deep g c = deep_enough c.args.made.op _ c.requires.can.deep
 
 pub returns-in-len1-clause-settled : goal.returns-in-len1-clause-settled
-returns-in-len1-clause-settled g c = (
-  c.exchange.ensures.exchanged.0,
-  record {
-    given = omega (arith, c.in-len1.len_at_least, c.in-len1.len_below, ap length c.result_kinds.ensures);
-    settled = c.exchange.ensures.exchanged.1;
-  },
-)
+returns-in-len1-clause-settled g c = grind arith
 
 pub settle_two-requires-clause-two : goal.settle_two-requires-clause-two
 settle_two-requires-clause-two g c =

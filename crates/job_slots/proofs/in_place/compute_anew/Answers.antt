@@ -1,10 +1,11 @@
+-- New blocks with the results come in the place of the operands.
 use Rattle.std.proofs.Common.{◌≡◌, ◌∙◌, ◌-◌, ℕ, zero, suc, false, List, Option, None, length, refl, sym, ap, arith}
 use Rattle.std.proofs.lemmas.Bool.Decides.{nat_tests}
 use Rattle.std.specs.Prelude.{◌==◌, slice_index_or}
 use Rattle.vcode_base.specs.declared.rule.Rule.TheVariants.{First}
 use Rattle.job_memory.specs.JobBlocks.{grant_of, words_of}
 use Rattle.job_slots.specs.InPlace.{result_count}
-use Rattle.job_slots.proofs.Exchanges.{HasExchanged, HasReplaced, nothing_in, own_are_live, own_still}
+use Rattle.job_slots.proofs.Exchanges.{HasExchanged, HasReplaced, ReleaseLaws, nothing_in, own_are_live, own_still}
 use Rattle.job_slots.proofs.Exchanges.{placed_and_released, placed_before}
 use Rattle.job_slots.proofs.InPlace.{one_computed, two_computed}
 use Rattle.job_slots.proofs.in_place.compute_anew.Given.{Over}
@@ -18,35 +19,27 @@ place_with-requires-clause-live g c =
 pub release_all-requires-clause-own : goal.release_all-requires-clause-own
 release_all-requires-clause-own g c =
     let placed = c.in-Ok.ensures.placed in
-    own_still c.args.turn.number c.args.blocks.now c.place_with.new.self c.in-Ok.first placed.words
-    c.args.operands.now placed.empty placed.placed c.requires.own
+    own_still c.args.turn.number c.args.blocks.now c.place_with.new.self c.in-Ok.first placed.words c.args.operands.now
+    placed.empty placed.placed c.requires.own
+
+laws : (g : Over) (c : After-release_all g) → ReleaseLaws
+laws g c =
+    record { only_free = c.releases_only_free.ensures; only_their_job = c.releases_change_only_their_job.ensures }
 
 -- the first result, in the place of the operands
-exchanged : (g : Over) (c : After-release_all g) →
-    HasExchanged First c.args.turn.number c.args.operands.now c.in-Ok.first c.in-Ok.ensures.placed.words
-    c.args.blocks.now c.release_all.new.self
+exchanged : (g : Over) (c : After-release_all g) → HasExchanged First c.args.turn.number c.args.operands.now
+    c.in-Ok.first c.in-Ok.ensures.placed.words c.args.blocks.now c.release_all.new.self
 exchanged g c =
     let placed = c.in-Ok.ensures.placed in
-    placed_and_released (record {
-      only_free = c.releases_only_free.ensures;
-      only_their_job = c.releases_change_only_their_job.ensures;
-    }) First c.args.turn.number c.args.operands.now c.args.operands.now c.in-Ok.first placed.words
-    c.args.blocks.now c.place_with.new.self c.release_all.new.self refl placed.in_range placed.empty placed.placed refl
+    placed_and_released (laws g c) _ _ _ _ _ _ _ _ _ refl placed.in_range placed.empty placed.placed refl
     c.release_all.ensures c.requires.own
 
-replaced : (g : Over) (c : After-release_all g) →
-    HasReplaced c.args.turn.rule c.args.turn.number c.args.operands.now c.in-Ok.first c.in-Ok.ensures.placed.words
-    c.args.blocks.now c.release_all.new.self
-replaced g c =
-    placed_before (record {
-      only_free = c.releases_only_free.ensures;
-      only_their_job = c.releases_change_only_their_job.ensures;
-    }) c.args.turn.rule c.args.turn.number c.args.operands.now c.in-Ok.first c.in-Ok.ensures.placed.words
-    c.args.blocks.now c.release_all.new.self c.requires.own (exchanged g c)
+replaced : (g : Over) (c : After-release_all g) → HasReplaced c.args.turn.rule c.args.turn.number c.args.operands.now
+    c.in-Ok.first c.in-Ok.ensures.placed.words c.args.blocks.now c.release_all.new.self
+replaced g c = placed_before (laws g c) _ _ _ _ _ _ _ c.requires.own (exchanged g c)
 
-grants : (g : Over) (c : After-release_all g) →
-    words_of (grant_of c.release_all.new.self c.args.turn.number)
-    ≡ words_of (grant_of c.args.blocks.now c.args.turn.number)
+grants : (g : Over) (c : After-release_all g) → words_of (grant_of c.release_all.new.self c.args.turn.number) ≡ words_of
+    (grant_of c.args.blocks.now c.args.turn.number)
 grants g c =
     ap (λ (all : List (Option ℕ)). words_of (slice_index_or all (c.args.turn.number - 1) None)) (exchanged g c).grants
 
@@ -65,11 +58,9 @@ returns-then-is_empty-clause-computed g c =
     let at = (goal.at.returns-then-is_empty-clause-computed g c).After-release_all in
     let placed = c.in-Ok.ensures.placed in
     let none : length c.place_with.new.beside ≡ 0 =
-    ap length (nothing_in c.place_with.new.beside (sym c.is_empty.ensures ∙ c.if-is_empty.true)) in
+    ap length (nothing_in _ (sym c.is_empty.ensures ∙ c.if-is_empty.true)) in
     let none_before : length c.args.beside.now ≡ 0 = omega (arith, c.place_with.auto.beside, none) in
-    one_computed c.args.turn.rule c.args.turn.number c.args.placement.op c.args.operands.now c.in-Ok.first placed.words
-    c.place_with.new.beside c.args.blocks.now c.release_all.new.self (replaced g at) placed.so
-    (c.requires.count ∙ ap result_count none_before) none
+    one_computed _ _ _ _ _ _ _ _ _ (replaced g at) placed.so (c.requires.count ∙ ap result_count none_before) none
 
 some_count : (second : ℕ) → (second == 0) ≡ false → result_count second ≡ 2
 some_count zero some = absurd (grind (arith, nat_tests))
@@ -80,9 +71,6 @@ returns-else-is_empty-clause-computed g c =
     let at = (goal.at.returns-else-is_empty-clause-computed g c).After-release_all in
     let placed = c.in-Ok.ensures.placed in
     let same : length c.args.beside.now ≡ length c.place_with.new.beside = omega (arith, c.place_with.auto.beside) in
-    two_computed c.args.turn.rule c.args.turn.number c.args.placement.op c.args.operands.now c.in-Ok.first placed.words
-    c.place_with.new.beside c.args.blocks.now c.release_all.new.self (replaced g at) placed.so c.place-second.result
-    c.place-second.new.blocks
+    two_computed _ _ _ _ _ _ _ _ _ (replaced g at) placed.so _ _
     (c.requires.count ∙ (ap result_count same ∙ some_count _ (sym c.is_empty.ensures ∙ c.if-is_empty.false)))
-    c.place-second.ensures.fresh.0 c.place-second.ensures.fresh.1
-    c.place-second.ensures.placed
+    c.place-second.ensures.fresh.0 c.place-second.ensures.fresh.1 c.place-second.ensures.placed

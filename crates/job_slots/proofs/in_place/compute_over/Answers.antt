@@ -1,4 +1,5 @@
-use Rattle.std.proofs.Common.{◌≡◌, ◌≤◌, ◌∙◌, ℕ, ℤ, List, [], length, map, refl, ap, sym, subst, arith}
+-- The block of the default is written over with the result, and the other operands are released.
+use Rattle.std.proofs.Common.{◌≡◌, ◌≤◌, ◌∙◌, ℤ, List, [], length, map, refl, ap, sym, subst, arith}
 use Rattle.std.proofs.lemmas.List.{length-map}
 use Rattle.vcode_base.specs.declared.kind.Scalar.{Scalar}
 use Rattle.vcode_base.specs.declared.kind.Scalar.TheVariants.{Int, Bool}
@@ -10,26 +11,21 @@ use Rattle.vcode_base.specs.Meaning.{value_fault}
 use Rattle.refcounts.specs.Making.{words_at}
 use Rattle.refcounts.specs.SharedState.{IsLive, AreLive, occurrences}
 use Rattle.job_steps.specs.Tickets.{AreResults, question_by}
-use Rattle.job_slots.specs.InPlace.{CanCompute, with_third}
+use Rattle.job_slots.specs.InPlace.{with_third}
 use Rattle.job_slots.proofs.Exchanges.{own_are_live, placed_after}
 use Rattle.job_slots.proofs.InPlace.{one_computed}
 use Rattle.job_slots.proofs.LettingGo.{own_named}
-use Rattle.job_slots.proofs.Overlaid.{default_listed, keeps_references, others_differ, others_too}
-use Rattle.job_slots.proofs.Overlaid.{words_with_third}
+use Rattle.job_slots.proofs.Overlaid.{default_listed, keeps_references, others_differ, others_too, words_with_third}
 use Rattle.job_slots.proofs.in_place.compute_over.Given.{Over}
 use Rattle.job_slots.proofs.in_place.compute_over.Goals as goal
 use Rattle.job_slots.proofs.in_place.compute_over.Goals.{After-changes_join}
 
 listed : (g : Over) (c : After-changes_join g) → 1 ≤ occurrences c.args.default c.args.operands.now
-listed g c =
-    subst (λ (ids : List ℕ). 1 ≤ occurrences c.args.default ids) (sym c.requires.are)
-    (default_listed c.args.default c.args.others c.requires.four)
+listed g c = rw c.requires.are (default_listed c.args.default c.args.others c.requires.four)
 
 -- the words of the operands
-lists : (g : Over) (c : After-changes_join g) →
-    map (words_at c.args.blocks.now.memory) c.args.operands.now
-    ≡ with_third [] (map (words_at c.args.blocks.now.memory) c.args.others)
-    (words_at c.args.blocks.now.memory c.args.default)
+lists : (g : Over) (c : After-changes_join g) → map (words_at c.args.blocks.now.memory) c.args.operands.now ≡ with_third
+    [] (map (words_at c.args.blocks.now.memory) c.args.others) (words_at c.args.blocks.now.memory c.args.default)
 lists g c =
     ap (map (words_at c.args.blocks.now.memory)) c.requires.are
     ∙ words_with_third (words_at c.args.blocks.now.memory) c.args.default c.args.others c.requires.four
@@ -41,8 +37,7 @@ exchange_with-requires-clause-listed g c =
 pub exchange_with-requires-clause-live : goal.exchange_with-requires-clause-live
 exchange_with-requires-clause-live g c =
     let m = c.args.blocks.now.memory in
-    others_too (IsLive m) c.args.default c.args.others
-    c.requires.four
+    others_too (IsLive m) c.args.default c.args.others c.requires.four
     (subst (AreLive m) c.requires.are
     (own_are_live c.args.turn.number c.args.blocks.now c.args.operands.now c.requires.own))
 
@@ -50,18 +45,15 @@ pub exchange_with-requires-clause-others : goal.exchange_with-requires-clause-ot
 exchange_with-requires-clause-others g c =
     let named = own_named c.args.turn.number c.args.blocks.now.memory c.args.operands.now c.requires.own
     c.args.default in
-    others_differ c.args.default c.args.others
-    c.requires.four
-    (subst (λ (ids : List ℕ). occurrences c.args.default ids ≤ 1) c.requires.are
-    (omega (arith, named, c.requires.single)))
+    let once : occurrences c.args.default c.args.operands.now ≤ 1 = omega (arith, named, c.requires.single) in
+    others_differ c.args.default c.args.others c.requires.four (rw c.requires.are at once)
 
 pub exchange_with-requires-clause-can : goal.exchange_with-requires-clause-can
 exchange_with-requires-clause-can g c =
     let at = (goal.at.exchange_with-requires-clause-can g c).After-changes_join in
     let words = words_at c.args.blocks.now.memory in (
       length-map c.args.others words ∙ c.requires.four,
-      subst (λ (xs : List (List ℤ)). CanCompute (SegmentedOp (DefaultPermute c.args.scalar)) xs
-          (length (words c.args.default), 0)) (lists g at) c.requires.can,
+      (rw (← lists g at) c.requires.can),
     )
 
 one : (k : Scalar) → length (result_kinds (SegmentedOp (DefaultPermute k))) ≡ 1
@@ -79,8 +71,7 @@ returns-in-Ok-clause-computed g c =
     }) c.args.turn.rule c.args.turn.number c.args.operands.now c.args.default e.words c.args.blocks.now
     c.exchange_with.new.self c.exchange_with.ensures.fresh.0 c.exchange_with.ensures.fresh.1 c.requires.own
     e.rewritten in
-    one_computed c.args.turn.rule c.args.turn.number op c.args.operands.now c.args.default e.words []
-    c.args.blocks.now c.exchange_with.new.self replaced
+    one_computed _ _ op _ _ _ [] _ _ replaced
     (subst (λ (xs : List (List ℤ)). AreResults (question_by op xs) e.words []) (sym (lists g at)) e.so)
     (one c.args.scalar) refl
 

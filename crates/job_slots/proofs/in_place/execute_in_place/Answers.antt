@@ -1,18 +1,15 @@
-use Rattle.std.proofs.Common.{◌≡◌, ◌∙◌, ◌+◌, ℕ, List, length, map, take, reverse, refl, sym, ap, subst, arith}
-use Rattle.std.proofs.Common.{length-take}
+-- An instruction is executed by computing its results from the blocks of its operands.
+use Rattle.std.proofs.Common.{◌≡◌, ◌∙◌, ◌+◌, ℕ, List, length, map, take, reverse, refl, sym, ap, arith, length-take}
 use Rattle.std.proofs.lemmas.List.{length-reverse, reverse-reverse}
-use Rattle.vcode_base.specs.declared.kind.Kind.{Kind}
 use Rattle.vcode_base.specs.declared.rule.Rule.TheVariants.{Second}
 use Rattle.vcode_base.specs.Meaning.{value_fault}
 use Rattle.refcounts.specs.Making.{words_at}
-use Rattle.job_memory.specs.JobBlocks.{AreOwn, held_words, words_of}
-use Rattle.job_steps.specs.Motions.{operand_count, top_entries}
+use Rattle.job_memory.specs.JobBlocks.{held_words, words_of}
 use Rattle.job_steps.specs.States.{ruled}
 use Rattle.job_steps.specs.Tickets.{AreResults, question_by}
-use Rattle.job_steps.specs.Tracks.{Advances}
 use Rattle.job_slots.specs.Commits.{blocks_beside, held_under, taken_ids}
 use Rattle.job_slots.specs.Executions.{CanExecute, HasSettled, IsExecuted, ids_in}
-use Rattle.job_slots.specs.InPlace.{CanCompute, operands_in, result_count, words_by}
+use Rattle.job_slots.specs.InPlace.{operands_in, result_count, words_by}
 use Rattle.job_slots.proofs.Executed.{executed_past}
 use Rattle.job_slots.proofs.InPlace.{computed_long}
 use Rattle.job_slots.proofs.Operands.{few_operands}
@@ -22,64 +19,39 @@ use Rattle.job_slots.proofs.in_place.execute_in_place.Goals.{After-top-operands,
 
 operands_are : (g : Over) (c : goal.After-top-operands g) →
     c.top-operands.result.now ≡ taken_ids c.args.due.placement.op c.args.track.now.cells
-operands_are g c =
-    c.top-operands.ensures
-    ∙ (ap (λ (ks : List Kind). top_entries (length ks) (reverse c.cells.result.now)) c.operand_kinds.ensures
-    ∙ (ap (λ (ids : List ℕ). top_entries (operand_count c.args.due.placement.op) (reverse ids)) c.cells.ensures
-    ∙ ap (λ (ids : List ℕ). top_entries (operand_count c.args.due.placement.op) ids)
-    (reverse-reverse c.args.track.now.cells)))
+operands_are g c = grind (arith, reverse-reverse)
 
 pub compute-requires-clause-room : goal.compute-requires-clause-room
 compute-requires-clause-room g c =
     omega (arith, c.requires.placeable.room, c.requires.lent, ap words_of c.requires.grant)
 
 pub compute-requires-clause-few : goal.compute-requires-clause-few
-compute-requires-clause-few g c =
-    let at = goal.at.compute-requires-clause-few g c in
-    let top = take (operand_count c.args.due.placement.op) c.args.track.now.cells in
-    omega (
-      arith,
-      ap length (operands_are g at.After-top-operands),
-      length-reverse top,
-      length-take (operand_count c.args.due.placement.op) c.args.track.now.cells,
-      few_operands c.args.due.placement.op,
-    )
+compute-requires-clause-few g c = grind (arith, operands_are, length-reverse, length-take, few_operands)
 
 pub compute-requires-clause-own : goal.compute-requires-clause-own
 compute-requires-clause-own g c =
-    subst (λ (ids : List ℕ). AreOwn c.args.due.turn.number c.args.blocks.now ids)
-    (sym (operands_are g (goal.at.compute-requires-clause-own g c).After-top-operands)) c.requires.placeable.own
+    rw (operands_are g (goal.at.compute-requires-clause-own g c).After-top-operands) c.requires.placeable.own
 
 pub compute-requires-clause-can : goal.compute-requires-clause-can
 compute-requires-clause-can g c =
-    let p = c.args.due.placement in
-    subst (λ (n : ℕ). CanCompute p.op (map (words_at c.args.blocks.now.memory) c.top-operands.result.now) (p.first, n))
-    (sym c.requires.lent)
-    (subst (λ (ids : List ℕ). CanCompute p.op (map (words_at c.args.blocks.now.memory) ids) (p.first, p.second))
-    (sym (operands_are g (goal.at.compute-requires-clause-can g c).After-top-operands)) c.requires.placeable.can)
+    let at = goal.at.compute-requires-clause-can g c in
+    rw (operands_are g at.After-top-operands, c.requires.lent) c.requires.placeable.can
 
 pub compute-requires-clause-count : goal.compute-requires-clause-count
 compute-requires-clause-count g c = c.requires.placeable.count ∙ ap result_count (sym c.requires.lent)
 
 -- the results of the operands that the cells name
-results : (g : Over) (c : In-Ok g) →
-    AreResults (question_by c.args.due.placement.op (operands_in c.args.blocks.now c.args.due.placement.op
-    c.args.track.now.cells)) c.in-Ok.ensures.computed.first c.in-Ok.ensures.computed.second
-results g c =
-    let here = c.in-Ok.ensures.computed in
-    subst (λ (ids : List ℕ). AreResults (question_by c.args.due.placement.op
-    (map (words_at c.args.blocks.now.memory) ids)) here.first here.second)
-    (operands_are g (goal.at.In-Ok g c).After-top-operands) here.results
+results : (g : Over) (c : In-Ok g) → AreResults
+    (question_by c.args.due.placement.op (operands_in c.args.blocks.now c.args.due.placement.op c.args.track.now.cells))
+    c.in-Ok.ensures.computed.first c.in-Ok.ensures.computed.second
+results g c = rw (operands_are g (goal.at.In-Ok g c).After-top-operands) at c.in-Ok.ensures.computed.results
 
-can : (g : Over) (c : In-Ok g) →
-    CanExecute c.args.due.turn.number c.args.blocks.now (ruled c.args.due.turn.rule c.args.job.now) c.args.track.now
-    c.args.due.placement.op c.args.due.placement.flag c.in-Ok.ensures.computed.first c.in-Ok.ensures.computed.second
+can : (g : Over) (c : In-Ok g) → CanExecute c.args.due.turn.number c.args.blocks.now
+    (ruled c.args.due.turn.rule c.args.job.now) c.args.track.now c.args.due.placement.op c.args.due.placement.flag
+    c.in-Ok.ensures.computed.first c.in-Ok.ensures.computed.second
 can g c =
     let p = c.args.due.placement in
-    let here = c.in-Ok.ensures.computed in
-    c.steps_execute.ensures c.args.due.turn.number c.args.blocks.now (ruled c.args.due.turn.rule c.args.job.now)
-    c.args.track.now p.op p.flag here.first here.second c.requires.flying c.requires.verified c.used-used.ensures.tidy
-    (record {
+    c.steps_execute.ensures _ _ _ _ _ _ _ _ c.requires.flying c.requires.verified c.used-used.ensures.tidy (record {
       question = question_by p.op (operands_in c.args.blocks.now p.op c.args.track.now.cells);
       asked = c.requires.placeable.question;
       op_is = refl;
@@ -87,70 +59,49 @@ can g c =
       results = results g c;
     })
 
-settled : (g : Over) (c : In-Ok g) →
-    HasSettled Second c.args.due.turn.number c.args.due.placement.op c.in-Ok.ensures.computed.first
-    c.in-Ok.ensures.computed.second c.args.track.now.cells (ids_in c.in-Ok.results) c.args.blocks.now
-    c.compute.new.blocks
+settled : (g : Over) (c : In-Ok g) → HasSettled Second c.args.due.turn.number c.args.due.placement.op
+    c.in-Ok.ensures.computed.first c.in-Ok.ensures.computed.second c.args.track.now.cells (ids_in c.in-Ok.results)
+    c.args.blocks.now c.compute.new.blocks
 settled g c =
-    c.in-Ok.ensures.computed.settled c.args.track.now.cells (sym (operands_are g (goal.at.In-Ok g
-    c).After-top-operands))
+    c.in-Ok.ensures.computed.settled c.args.track.now.cells
+    (sym (operands_are g (goal.at.In-Ok g c).After-top-operands))
 
 pub overflow_add-held : goal.overflow_add-held
 overflow_add-held g c =
     omega (arith, c.requires.placeable.room, c.held-held.ensures.value, c.args.job.now.limits.words_in_range)
 
-pub advance_settled-requires-clause-budget : goal.advance_settled-requires-clause-budget
-advance_settled-requires-clause-budget g c =
-    (can g (goal.at.advance_settled-requires-clause-budget g c).In-Ok).goes_past.unspent
+pub advance_settled-requires : goal.advance_settled-requires
+advance_settled-requires g c =
+    let at = (goal.at.advance_settled-requires g c).In-Ok in
+    let past = (can g at).goes_past in
+    record {
+      budget = past.unspent;
+      deep = past.deep;
+      given = ap length c.as_slice.ensures ∙ (settled g at).given;
+      cells = past.cells;
+      calls = past.follows;
+      settled = c.requires.flying.settled;
+    }
 
-pub advance_settled-requires-clause-deep : goal.advance_settled-requires-clause-deep
-advance_settled-requires-clause-deep g c =
-    (can g (goal.at.advance_settled-requires-clause-deep g c).In-Ok).goes_past.deep
-
-pub advance_settled-requires-clause-cells : goal.advance_settled-requires-clause-cells
-advance_settled-requires-clause-cells g c =
-    (can g (goal.at.advance_settled-requires-clause-cells g c).In-Ok).goes_past.cells
-
-pub advance_settled-requires-clause-calls : goal.advance_settled-requires-clause-calls
-advance_settled-requires-clause-calls g c =
-    (can g (goal.at.advance_settled-requires-clause-calls g c).In-Ok).goes_past.follows
-
-pub advance_settled-requires-clause-given : goal.advance_settled-requires-clause-given
-advance_settled-requires-clause-given g c =
-    ap length c.as_slice.ensures ∙ (settled g (goal.at.advance_settled-requires-clause-given g c).In-Ok).given
-
-executed : (g : Over) (c : goal.After-advance_settled g) →
-    IsExecuted c.args.due.turn.number c.args.blocks.now c.compute.new.blocks
-    (ruled c.args.due.turn.rule c.args.job.now) c.args.track.now c.advance_settled.new.self
+executed : (g : Over) (c : goal.After-advance_settled g) → IsExecuted c.args.due.turn.number c.args.blocks.now
+    c.compute.new.blocks (ruled c.args.due.turn.rule c.args.job.now) c.args.track.now c.advance_settled.new.self
 executed g c =
     let at = (goal.at.After-advance_settled g c).In-Ok in
     let p = c.args.due.placement in
     let here = c.in-Ok.ensures.computed in
     let old : ℕ = held_words c.args.due.turn.number c.args.blocks.now in
-    let all : ℕ = held_under c.args.due.turn.rule c.args.due.turn.number p.op c.args.track.now.cells c.args.blocks.now
-    + length here.first + length here.second in
+    let all : ℕ = held_under c.args.due.turn.rule c.args.due.turn.number p.op c.args.track.now.cells c.args.blocks.now +
+    length here.first + length here.second in
     let long = computed_long c.results_have_needed_lengths.ensures p.op _ _ c.requires.placeable.can here.first
     here.second (results g at) in
     let before : c.held-held.result + p.first + p.second ≡ old + length here.first + length here.second =
-    omega (
-      arith,
-      c.held-held.ensures.value,
-      ap (λ (n : ℕ × ℕ). n.0) long,
-      ap (λ (n : ℕ × ℕ). n.1) long,
-    ) in
-    let words : c.words_by-words.result ≡ all =
-    c.words_by-words.ensures
-    ∙ (ap (λ (n : ℕ). words_by c.args.due.turn.rule n c.held.result) before
-    ∙ (ap (λ (n : ℕ). words_by c.args.due.turn.rule (old + length here.first + length here.second) n)
-    c.held.ensures.value
-    ∙ (here.counted ∙ ap (λ (ids : List ℕ). held_words c.args.due.turn.number
-    (blocks_beside c.args.due.turn.rule ids c.args.blocks.now) + length here.first + length here.second)
-    (operands_are g (goal.at.In-Ok g at).After-top-operands)))) in
-    executed_past (can g at) (settled g at) refl
-    (subst (λ (ids : List ℕ). Advances c.args.job.now.verified p.op p.flag ids all c.args.track.now
-    c.advance_settled.new.self) c.as_slice.ensures
-    (subst (λ (n : ℕ). Advances c.args.job.now.verified p.op p.flag c.as_slice.result.now n c.args.track.now
-    c.advance_settled.new.self) words c.advance_settled.ensures.advances))
+    omega (arith, ap (λ (n : ℕ × ℕ). n.0) long, ap (λ (n : ℕ × ℕ). n.1) long) in
+    let words : c.words_by-words.result ≡ all = c.words_by-words.ensures ∙ (ap (λ (n : ℕ). words_by c.args.due.turn.rule
+    n c.held.result) before ∙ (ap (λ (n : ℕ). words_by c.args.due.turn.rule (old + length here.first + length
+    here.second) n) c.held.ensures.value ∙ (here.counted ∙ ap (λ (ids : List ℕ). held_words c.args.due.turn.number
+    (blocks_beside c.args.due.turn.rule ids c.args.blocks.now) + length here.first + length here.second) (operands_are g
+    (goal.at.In-Ok g at).After-top-operands)))) in
+    executed_past (can g at) (settled g at) refl (rw (c.as_slice.ensures, words) at c.advance_settled.ensures.advances)
 
 pub returns-in-Ok-clause-after : goal.returns-in-Ok-clause-after
 returns-in-Ok-clause-after g c = (executed g (goal.at.returns-in-Ok-clause-after g c).After-advance_settled).after
@@ -161,8 +112,4 @@ returns-in-Ok-clause-others g c = (executed g (goal.at.returns-in-Ok-clause-othe
 pub returns-in-Err-clause-fault : goal.returns-in-Err-clause-fault
 returns-in-Err-clause-fault g c =
     ap (λ (ids : List ℕ). value_fault c.args.due.placement.op (map (words_at c.args.blocks.now.memory) ids))
-    (sym (operands_are g (goal.at.returns-in-Err-clause-fault g c).After-top-operands))
-    ∙ c.in-Err.ensures.fault
-
-pub advance_settled-requires-clause-settled : goal.advance_settled-requires-clause-settled
-advance_settled-requires-clause-settled g c = c.requires.flying.settled
+    (sym (operands_are g (goal.at.returns-in-Err-clause-fault g c).After-top-operands)) ∙ c.in-Err.ensures.fault

@@ -1,3 +1,4 @@
+-- What is read at a settled line is the next instruction, with operands of its kinds.
 use Rattle.std.proofs.Common.{◌≡◌, take, sym, ◌∙◌, ap}
 use Rattle.vcode_base.specs.declared.op.Op.{Op}
 use Rattle.vcode_base.specs.Instructions.{op_of}
@@ -29,16 +30,13 @@ top_operands-requires-clause-live g c =
     live c.steps_can_begin.ensures c.args.turn.number c.args.blocks.now (ruled c.args.turn.rule c.args.job.now)
     c.args.track.now c.requires.running c.requires.verified c.settled_line-line.result c.settled_line-line.ensures
 
-known : (g : Over) (c : After-top_operands g) →
-    c.args.op ≡ op_of (instruction_in c.settled_line-line.result.item) →
+known : (g : Over) (c : After-top_operands g) → c.args.op ≡ op_of (instruction_in c.settled_line-line.result.item) →
     IsKindly (ruled c.args.turn.rule c.args.job.now) c.args.track.now.executed c.args.op
     c.settled_line-line.result.number (contents (take c.top_operands.result.count c.top_operands.result.lists))
 known g c is =
     is_read c.steps_can_begin.ensures c.args.turn.number c.args.blocks.now (ruled c.args.turn.rule c.args.job.now)
     c.args.track.now c.requires.running c.requires.verified c.settled_line-line.result c.settled_line-line.ensures
-    c.args.op _ is
-    (λ stack there.
-    c.top_operands.ensures stack there
+    c.args.op _ is (λ stack there. c.top_operands.ensures stack there
     ∙ (ap (λ (op : Op). words_of (top_entries (operand_count op) stack)) is
     ∙ sym (read_on_top (instruction_in c.settled_line-line.result.item) stack
     (sym (ap is_constant is) ∙ c.requires.no_list))))

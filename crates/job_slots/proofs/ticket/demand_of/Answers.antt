@@ -1,3 +1,4 @@
+-- The demand that is answered is that of the next instruction, if nothing ends the job before it.
 use Rattle.std.proofs.Common.{◌≡◌, ◌+◌, ◌-◌, ◌^◌, min, take, Option, ap, ◌∙◌, arith}
 use Rattle.vcode_base.specs.declared.fault.DataFault.{DataFault}
 use Rattle.vcode_base.specs.Operands.{contents}
@@ -10,44 +11,29 @@ use Rattle.job_slots.proofs.ticket.demand_of.Goals as goal
 
 pub held_under-held-requires-clause-own : goal.held_under-held-requires-clause-own
 held_under-held-requires-clause-own g c =
-    let next = c.read_next-next.result in
-    operands_are_own c.steps_can_begin.ensures c.held_is_counted.ensures c.args.turn.number c.args.blocks.now
-    (ruled c.args.turn.rule c.args.job.now) c.args.track.now c.requires.running c.requires.verified
-    c.used-used.ensures.tidy
-    next.op next.line _ c.read_next-next.ensures.next
+    operands_are_own c.steps_can_begin.ensures c.held_is_counted.ensures c.args.turn.number c.args.blocks.now _ _
+    c.requires.running c.requires.verified c.used-used.ensures.tidy _ _ _ c.read_next-next.ensures.next
 
 pub held_under-held-requires-clause-deep : goal.held_under-held-requires-clause-deep
 held_under-held-requires-clause-deep g c =
-    let next = c.read_next-next.result in
-    operands_are_there c.steps_can_begin.ensures c.held_is_counted.ensures c.args.turn.number c.args.blocks.now
-    (ruled c.args.turn.rule c.args.job.now) c.args.track.now c.requires.running c.requires.verified
-    c.used-used.ensures.tidy
-    next.op next.line _ c.read_next-next.ensures.next
+    operands_are_there c.steps_can_begin.ensures c.held_is_counted.ensures c.args.turn.number c.args.blocks.now _ _
+    c.requires.running c.requires.verified c.used-used.ensures.tidy _ _ _ c.read_next-next.ensures.next
 
 pub returns-clause-executed : goal.returns-clause-executed
-returns-clause-executed g c = λ none.
-    let task = ruled c.args.turn.rule c.args.job.now in
+returns-clause-executed g c =
+    λ none. let task = ruled c.args.turn.rule c.args.job.now in
     let next = c.read_next-next.result in
     let sources = contents (take next.operands.count next.operands.lists) in
     let held = c.held_under-held.result in
     let needed = need_words (question_by next.op sources) in
-    let fits =
-    demand_fits c.steps_can_begin.ensures c.held_is_counted.ensures c.args.turn.number c.args.blocks.now task
-    c.args.track.now c.requires.running c.requires.verified c.used-used.ensures.tidy next.op next.line sources
-    c.read_next-next.ensures.next held c.held_under-held.ensures none in
+    let fits = demand_fits c.steps_can_begin.ensures c.held_is_counted.ensures _ _ _ _ c.requires.running
+    c.requires.verified c.used-used.ensures.tidy _ _ _ c.read_next-next.ensures.next _ c.held_under-held.ensures none in
     let small : min (held + needed) (2 ^ 64 - 1) ≡ held + needed = omega (arith, fits.1, c.requires.running) in
-    c.demand_by.ensures
-    ∙ ap (λ (fault : Option DataFault). told_demand fault held needed) fits.0
-    ∙ small
-    ∙ demand_is c.steps_can_begin.ensures c.held_is_counted.ensures c.args.turn.number c.args.blocks.now task
-    c.args.track.now c.requires.running c.requires.verified c.used-used.ensures.tidy next.op next.line sources
-    c.read_next-next.ensures.next held c.held_under-held.ensures
+    c.demand_by.ensures ∙ ap (λ (fault : Option DataFault). told_demand fault held needed) fits.0 ∙ small
+    ∙ demand_is c.steps_can_begin.ensures c.held_is_counted.ensures _ _ _ _ c.requires.running c.requires.verified
+    c.used-used.ensures.tidy _ _ _ c.read_next-next.ensures.next _ c.held_under-held.ensures
 
 pub returns-clause-told : goal.returns-clause-told
 returns-clause-told g c =
-    let next = c.read_next-next.result in
-    c.demand_by.ensures
-    ∙ told_is c.steps_can_begin.ensures c.held_is_counted.ensures c.args.turn.number c.args.blocks.now
-    (ruled c.args.turn.rule c.args.job.now) c.args.track.now c.requires.running c.requires.verified
-    c.used-used.ensures.tidy next.op next.line (contents (take next.operands.count next.operands.lists))
-    c.read_next-next.ensures.next c.held_under-held.result c.held_under-held.ensures
+    c.demand_by.ensures ∙ told_is c.steps_can_begin.ensures c.held_is_counted.ensures _ _ _ _ c.requires.running
+    c.requires.verified c.used-used.ensures.tidy _ _ _ c.read_next-next.ensures.next _ c.held_under-held.ensures

@@ -1,4 +1,5 @@
-use Rattle.std.proofs.Common.{◌≡◌, ℕ, ◌+◌, ◌-◌, ◌^◌, take, length, None, sym, ◌∙◌, ap, arith}
+-- The needs of the next instruction are found, or the memory fault that ends the job.
+use Rattle.std.proofs.Common.{◌≡◌, ℕ, ◌+◌, ◌-◌, take, length, None, sym, ◌∙◌, ap, arith}
 use Rattle.vcode_base.specs.Meaning.{need, shape}
 use Rattle.vcode_base.specs.Operands.{contents}
 use Rattle.job_steps.specs.Motions.{depth_after}
@@ -20,21 +21,10 @@ lengths_are : (g : Over) (c : After-memory_fault g) →
 lengths_are g c = c.in-Ok.ensures.1 ∙ ap (λ lists. need c.args.next.now.op (contents lists)) c.as_slice.ensures
 
 -- the fault that was found is that at the words that are needed
-fault_is : (g : Over) (c : After-memory_fault g) →
-    let track = c.args.track.now in
-    let next = c.args.next.now in
-    memory_fault track.limits next.op
-    (c.args.held + need_words (question_by next.op (contents (take next.operands.count next.operands.lists))))
-    (depth_after next.op (length track.cells)) (length track.frames)
-    ≡ c.memory_fault.result
-fault_is g c =
-    let track = c.args.track.now in
-    let next = c.args.next.now in
-    sym (c.memory_fault.ensures
-    ∙ limit_fault track.limits next.op (contents (take next.operands.count next.operands.lists)) c.args.held
-    (depth_after next.op (length track.cells)) (length track.frames) c.saturating_add.result
-    c.saturating_add-words.result (2 ^ 64 - 1) (c.in-Ok.first, c.in-Ok.second) (lengths_are g c)
-    c.saturating_add.ensures c.saturating_add-words.ensures (omega (arith, c.requires.words)))
+fault_is : (g : Over) (c : After-memory_fault g) → let track = c.args.track.now in let next = c.args.next.now in
+    memory_fault track.limits next.op (c.args.held + need_words (question_by next.op (contents (take next.operands.count
+    next.operands.lists)))) (depth_after next.op (length track.cells)) (length track.frames) ≡ c.memory_fault.result
+fault_is g c = grind (arith, limit_fault, lengths_are)
 
 pub returns-in-Some : goal.returns-in-Some
 returns-in-Some g c =
@@ -43,17 +33,5 @@ returns-in-Some g c =
 
 pub returns-in-None : goal.returns-in-None
 returns-in-None g c =
-    let at = (goal.at.returns-in-None g c).After-memory_fault in
-    let track = c.args.track.now in
-    let next = c.args.next.now in
-    let few = within_words track.limits next.op c.saturating_add-words.result
-    (depth_after next.op (length track.cells)) (length track.frames) (sym c.memory_fault.ensures ∙ c.in-None.is) in (
-      record {
-        lengths = lengths_are g at;
-        words_are =
-            all_counted track.limits.words c.args.held c.in-Ok.first c.in-Ok.second (2 ^ 64 - 1)
-            c.saturating_add.result c.saturating_add-words.result c.saturating_add.ensures
-            c.saturating_add-words.ensures (omega (arith, c.requires.words)) few;
-      },
-      ends_by_nothing next.line _ _ (shaped g at) (fault_is g at ∙ c.in-None.is),
-    )
+    grind (arith, After-memory_fault, within_words, lengths_are, all_counted, ends_by_nothing, shaped, fault_is) steps
+    2000000

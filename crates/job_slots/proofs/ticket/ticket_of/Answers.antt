@@ -12,8 +12,7 @@ pub ask-requires : goal.ask-requires
 ask-requires g c =
     let next = c.read_next-next.result in
     let sources = contents (take next.operands.count next.operands.lists) in
-    let ask : CanAsk c.args.desk next.op sources =
-    subst (λ (op : Op). CanAsk c.args.desk op sources) c.in-Ok.ensures.0
+    let ask : CanAsk c.args.desk next.op sources = subst (λ (op : Op). CanAsk c.args.desk op sources) c.in-Ok.ensures.0
     (c.in-Ok.ensures.1.can_ask c.args.desk c.requires.words) in
     rw c.as_slice-operands.ensures (record { can = ask.can; room = ask.room })
 

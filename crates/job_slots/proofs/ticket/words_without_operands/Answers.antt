@@ -1,3 +1,4 @@
+-- The words of an instruction without operands are counted, or they end the job.
 use Rattle.std.proofs.Common.{◌≡◌, length, sym, ◌∙◌, ap, arith}
 use Rattle.std.specs.Prelude.{is_some}
 use Rattle.vcode_base.specs.declared.limits.Limits.{Limits}
@@ -17,56 +18,44 @@ returns-then-executed-limits g c =
     let track = c.args.track.now in
     let run = c.requires.running in
     let limits : c.limits.result ≡ track.limits = c.limits.ensures ∙ sym run.at.limits in
-    let spent : track.executed ≡ track.limits.budget =
-    sym c.executed.ensures ∙ (c.if-executed-limits.true ∙ ap (λ (l : Limits). l.budget) limits) in
+    let spent : track.executed ≡ track.limits.budget = sym c.executed.ensures
+    ∙ (c.if-executed-limits.true ∙ ap (λ (l : Limits). l.budget) limits) in
     ap is_some (budget_end (ruled c.args.turn.rule c.args.job.now) track run.state run.running run.at spent)
 
 pub words_with-words-requires-clause-few : goal.words_with-words-requires-clause-few
 words_with-words-requires-clause-few g c =
-    let few = few_held c.steps_can_begin.ensures c.args.turn.number c.args.blocks.now
-    (ruled c.args.turn.rule c.args.job.now)
-    c.args.track.now c.requires.running c.requires.verified c.args.plain.op c.args.plain.list.now c.requires.next
-    c.requires.list
-    c.requires.no_operands c.reached.ensures c.held_is_counted.ensures c.used-used.ensures.tidy in
+    let few = few_held c.steps_can_begin.ensures c.args.turn.number c.args.blocks.now _ _ c.requires.running
+    c.requires.verified c.args.plain.op c.args.plain.list.now c.requires.next c.requires.list c.requires.no_operands
+    c.reached.ensures c.held_is_counted.ensures c.used-used.ensures.tidy in
     omega (arith, few, c.args.track.now.limits.words_in_range)
 
 unspent : (g : Over) (c : After-memory_fault g) → c.args.track.now.executed ≡ c.args.track.now.limits.budget → ⊥
-unspent g c same =
-    let limits : c.limits.result ≡ c.args.track.now.limits =
-    c.limits.ensures ∙ sym c.requires.running.at.limits in
-    c.if-executed-limits.false (c.executed.ensures ∙ (same ∙ sym (ap (λ (l : Limits). l.budget) limits)))
+unspent g c same = grind arith
 
 -- the fault that was found is that at the words that count
 fault_is : (g : Over) (c : After-memory_fault g) →
-    let track = c.args.track.now in
-    memory_fault track.limits c.args.plain.op (words_with c.args.plain.list.now
-    (held_words c.args.turn.number c.args.blocks.now))
+    let track = c.args.track.now in memory_fault track.limits c.args.plain.op
+    (words_with c.args.plain.list.now (held_words c.args.turn.number c.args.blocks.now))
     (depth_after c.args.plain.op (length track.cells)) (length track.frames) ≡ c.memory_fault.result
-fault_is g c =
-    let track = c.args.track.now in
-    ap (λ words. memory_fault track.limits c.args.plain.op words (depth_after c.args.plain.op (length track.cells))
-    (length track.frames)) (sym c.words_with-words.ensures) ∙ sym c.memory_fault.ensures
+fault_is g c = grind arith
 
 pub returns-in-Some : goal.returns-in-Some
 returns-in-Some g c =
     let at = (goal.at.returns-in-Some g c).After-memory_fault in
-    ends_by_fault c.steps_can_begin.ensures c.args.turn.number c.args.blocks.now (ruled c.args.turn.rule c.args.job.now)
-    c.args.track.now c.requires.running c.requires.verified c.args.plain.op c.args.plain.list.now c.requires.next
-    c.requires.list
-    c.requires.no_operands c.reached.ensures c.held_is_counted.ensures c.used-used.ensures.tidy (unspent g at)
+    ends_by_fault c.steps_can_begin.ensures c.args.turn.number c.args.blocks.now _ _ c.requires.running
+    c.requires.verified c.args.plain.op c.args.plain.list.now c.requires.next c.requires.list c.requires.no_operands
+    c.reached.ensures c.held_is_counted.ensures c.used-used.ensures.tidy (unspent g at)
     (ap is_some (fault_is g at ∙ c.in-Some.is))
 
 pub returns-in-None : goal.returns-in-None
 returns-in-None g c =
     let at = (goal.at.returns-in-None g c).After-memory_fault in (
-      goes_on c.steps_can_begin.ensures c.args.turn.number c.args.blocks.now (ruled c.args.turn.rule c.args.job.now)
-          c.args.track.now c.requires.running c.requires.verified c.args.plain.op c.args.plain.list.now c.requires.next
-          c.requires.list
-          c.requires.no_operands c.reached.ensures c.held_is_counted.ensures c.used-used.ensures.tidy (unspent g at)
+      goes_on c.steps_can_begin.ensures c.args.turn.number c.args.blocks.now _ _ c.requires.running c.requires.verified
+          c.args.plain.op c.args.plain.list.now c.requires.next c.requires.list c.requires.no_operands
+          c.reached.ensures c.held_is_counted.ensures c.used-used.ensures.tidy (unspent g at)
           (fault_is g at ∙ c.in-None.is),
       rw c.words_with-words.ensures
-          (counts c.steps_can_begin.ensures c.args.turn.number c.args.blocks.now (ruled c.args.turn.rule c.args.job.now)
-          c.args.track.now c.requires.running c.requires.verified c.args.plain.op c.args.plain.list.now c.requires.next
-          c.requires.list
+          (counts c.steps_can_begin.ensures c.args.turn.number c.args.blocks.now _ _ c.requires.running
+          c.requires.verified c.args.plain.op c.args.plain.list.now c.requires.next c.requires.list
           c.requires.no_operands c.reached.ensures c.held_is_counted.ensures c.used-used.ensures.tidy),
     )

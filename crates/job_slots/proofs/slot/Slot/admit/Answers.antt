@@ -7,8 +7,5 @@ use Rattle.job_slots.proofs.slot.Slot.admit.Goals as goal
 pub returns-clause-shows : goal.returns-clause-shows
 returns-clause-shows g c =
     let job = ruled c.args.turn.rule c.args.job.now in
-    let number = c.args.turn.number in
-    let slot = c.args.self.now in
-    subst (λ (s : SlotState). Shows number c.grant.new.self job (live s)) (sym c.self.view_is)
-    (rw (c.in_ok-grant.ensures.granted, c.limits.ensures)
-    (shows_admitted number c.args.blocks.now job slot c.requires.shows c.requires.waits))
+    subst (λ (s : SlotState). Shows c.args.turn.number c.grant.new.self job (live s)) (sym c.self.view_is)
+    (rw (c.in_ok-grant.ensures.granted, c.limits.ensures) (shows_admitted _ _ job _ c.requires.shows c.requires.waits))

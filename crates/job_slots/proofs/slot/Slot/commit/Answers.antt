@@ -1,12 +1,18 @@
-use Rattle.std.proofs.Common.{ap, subst, sym}
+-- A commit carries out the instruction in flight, or ends the job by a value fault.
+use Rattle.std.proofs.Common.{◌≡◌, ◌∙◌, Bool, true, false, cond, Some, ap, subst, sym}
+use Rattle.job_steps.specs.declared.event.Event.TheVariants as event
+use Rattle.job_steps.specs.Events.{next_standing}
 use Rattle.job_steps.specs.States.{ruled}
+use Rattle.job_slots.specs.declared.answer.Finished.TheVariants as finished
 use Rattle.job_slots.specs.declared.status.Status.{Status}
-use Rattle.job_slots.specs.Slots.{SlotState, IsActive, standing_of}
+use Rattle.job_slots.specs.Answers.{Finishes, TakesStep}
+use Rattle.job_slots.specs.Slots.{SlotState, IsActive, standing_by, standing_of}
 use Rattle.job_slots.proofs.Overlaid.{may_end}
-use Rattle.job_slots.proofs.Committed.{FaultCommits, fault_commits, ended_standing}
+use Rattle.job_slots.proofs.Committed.{FaultCommits, can_step, fault_commits, finish_leads, goes_on_flying}
+use Rattle.job_slots.proofs.OneGo.{finish_answers}
 use Rattle.job_slots.proofs.slot.Slot.commit.Given.{Over}
 use Rattle.job_slots.proofs.slot.Slot.commit.Goals as goal
-use Rattle.job_slots.proofs.slot.Slot.commit.Goals.{After-line_of_next-line}
+use Rattle.job_slots.proofs.slot.Slot.commit.Goals.{After-carry_out, After-line_of_next-line}
 
 -- ---- a value fault
 
@@ -14,30 +20,63 @@ fault_ends_job : (g : Over) (c : goal.After-line_of_next-line g) →
     FaultCommits c.args.turn.number (ruled c.args.turn.rule c.args.job.now) c.args.self.now c.in-Err.fault
     c.line_of_next-line.result
 fault_ends_job g c =
-    fault_commits c.others_are_ready.ensures c.end_is_own.ensures c.args.turn.number c.args.blocks.now
-    (ruled c.args.turn.rule c.args.job.now)
-    c.args.self.now c.args.filled.now c.self.inside.track c.in-Err.fault c.line_of_next-line.result c.requires.shows
-    c.requires.flying c.requires.fits (ap (λ (s : SlotState). s.trace) c.self.view_is) c.in-Err.ensures
-    c.line_of_next-line.ensures
+    fault_commits c.others_are_ready.ensures c.end_is_own.ensures _ _ _ _ _ _ _ _ c.requires.shows c.requires.flying
+    c.requires.fits (ap (λ (s : SlotState). s.trace) c.self.view_is) c.in-Err.ensures c.line_of_next-line.ensures
 
 pub end-requires-clause-may_end : goal.end-requires-clause-may_end
-end-requires-clause-may_end g c =
-    may_end c.args.turn.number c.args.blocks.now (ruled c.args.turn.rule c.args.job.now) c.args.self.now
-    c.requires.shows (subst (λ (s : Status). IsActive s) (sym c.requires.flying) tt)
+end-requires-clause-may_end g c = may_end _ _ _ _ c.requires.shows (subst IsActive (sym c.requires.flying) tt)
 
 pub end-requires-clause-ending : goal.end-requires-clause-ending
 end-requires-clause-ending g c =
     (fault_ends_job g (goal.at.end-requires-clause-ending g c).After-line_of_next-line).ending
 
 pub returns-in-Err-clause-answer : goal.returns-in-Err-clause-answer
-returns-in-Err-clause-answer g c = (
-  c.requires.fits,
-  (fault_ends_job g (goal.at.returns-in-Err-clause-answer g c).After-line_of_next-line).next,
-)
+returns-in-Err-clause-answer g c =
+    (c.requires.fits, (fault_ends_job g (goal.at.returns-in-Err-clause-answer g c).After-line_of_next-line).next)
 
 pub returns-in-Err-clause-standing : goal.returns-in-Err-clause-standing
 returns-in-Err-clause-standing g c =
-    ended_standing c.args.turn.number (ruled c.args.turn.rule c.args.job.now) (standing_of c.args.self.now)
-    c.end.new.self
-    c.end.ensures.ended
-    (fault_ends_job g (goal.at.returns-in-Err-clause-standing g c).After-line_of_next-line).next
+    ap (λ (s : Status). Some (standing_by s c.end.new.self.trace.executed)) c.end.ensures.ended
+    ∙ sym (fault_ends_job g (goal.at.returns-in-Err-clause-standing g c).After-line_of_next-line).next
+
+-- ---- the instruction is executed
+
+pub carry_out-requires-clause-can : goal.carry_out-requires-clause-can
+carry_out-requires-clause-can g c =
+    rw (← c.self.view_is) at (can_step _ _ _ _ c.requires.shows c.requires.flying c.requires.numbers)
+
+pub carry_out-requires-clause-goes_on : goal.carry_out-requires-clause-goes_on
+carry_out-requires-clause-goes_on g c =
+    rw (← c.self.view_is) at (goes_on_flying _ _ _ _ c.requires.shows c.requires.flying)
+
+steps : (g : Over) (c : After-carry_out g) → TakesStep c.args.turn.number (ruled c.args.turn.rule c.args.job.now)
+    c.args.self.now.trace.executed c.args.blocks.now c.carry_out.new.self c.carry_out.new.blocks c.carry_out.result
+steps g c = rw (← c.self.view_is) c.carry_out.ensures
+
+stands : (g : Over) (c : After-carry_out g) → Some (standing_of c.carry_out.new.self)
+    ≡ next_standing (event.Finish c.args.turn.number) (ruled c.args.turn.rule c.args.job.now)
+    (standing_of c.args.self.now)
+stands g c = finish_leads _ _ _ _ c.requires.shows c.requires.flying _ _ _ (steps g c)
+
+answers : (g : Over) (c : After-carry_out g) (on : Bool) → c.carry_out.result ≡ on →
+    Finishes c.args.turn.number (ruled c.args.turn.rule c.args.job.now) (standing_of c.args.self.now) c.args.filled.now
+    (cond on finished.Done finished.Ended)
+answers g c on is =
+    finish_answers _ _ c.args.self.now _ _ c.carry_out.new.self _ on c.requires.flying c.requires.fits
+    (rw is at (steps g c)) (stands g c)
+
+pub returns-then-carry_out-clause-answer : goal.returns-then-carry_out-clause-answer
+returns-then-carry_out-clause-answer g c =
+    answers g (goal.at.returns-then-carry_out-clause-answer g c).After-carry_out true c.if-carry_out.true
+
+pub returns-then-carry_out-clause-standing : goal.returns-then-carry_out-clause-standing
+returns-then-carry_out-clause-standing g c =
+    stands g (goal.at.returns-then-carry_out-clause-standing g c).After-carry_out
+
+pub returns-else-carry_out-clause-answer : goal.returns-else-carry_out-clause-answer
+returns-else-carry_out-clause-answer g c =
+    answers g (goal.at.returns-else-carry_out-clause-answer g c).After-carry_out false c.if-carry_out.false
+
+pub returns-else-carry_out-clause-standing : goal.returns-else-carry_out-clause-standing
+returns-else-carry_out-clause-standing g c =
+    stands g (goal.at.returns-else-carry_out-clause-standing g c).After-carry_out

@@ -3,9 +3,9 @@ use Rattle.job_steps.specs.States.{ruled}
 use Rattle.job_slots.proofs.Running.{IsOnRun}
 use Rattle.job_slots.proofs.slot.Slot.run.Given as goal
 
-abbrev pub invariant-loop-blocks : goal.invariant-loop-blocks
-invariant-loop-blocks g l =
+abbrev pub invariant-loop-turn : goal.invariant-loop-turn
+invariant-loop-turn g l =
     IsOnRun l.turn.number (ruled l.turn.rule l.job) l.fn.self l.fn.blocks l.self l.blocks × (l.desk ≡ l.fn.desk)
 
-abbrev pub decreases-loop-blocks : goal.decreases-loop-blocks
-decreases-loop-blocks g l = l.job.limits.budget - l.self.trace.executed
+abbrev pub decreases-loop-turn : goal.decreases-loop-turn
+decreases-loop-turn g l = l.job.limits.budget - l.self.trace.executed

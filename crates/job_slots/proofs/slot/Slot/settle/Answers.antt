@@ -1,9 +1,10 @@
-use Rattle.std.proofs.Common.{◌≡◌, ◌∙◌, ℕ, List, sym, ap, subst}
+-- A slot whose frames were settled still shows the job, and its frames stand at lines.
+use Rattle.std.proofs.Common.{◌≡◌, ◌∙◌, List, ap, subst}
 use Rattle.vcode_reader.specs.Trees.{Function, Program}
 use Rattle.verifier.specs.Typed.{TypedProgram}
-use Rattle.job_steps.specs.Frames.{IsSettled, StandAll}
-use Rattle.job_steps.specs.States.{Active, ruled}
-use Rattle.job_steps.specs.Tracks.{TrackState, functions_of}
+use Rattle.job_steps.specs.Frames.{IsSettled}
+use Rattle.job_steps.specs.States.{ruled}
+use Rattle.job_steps.specs.Tracks.{functions_of}
 use Rattle.job_slots.specs.declared.status.Status.TheVariants as status
 use Rattle.job_slots.specs.Slots.{SlotState, Shows}
 use Rattle.job_slots.proofs.Begins.{can_begin}
@@ -13,8 +14,7 @@ use Rattle.job_slots.proofs.slot.Slot.settle.Goals as goal
 pub settle-requires : goal.settle-requires
 settle-requires g c =
     let task = ruled c.args.turn.rule c.args.job.now in
-    let running = runs_inside c.args.turn.number c.args.blocks.now task _ c.args.self.now c.self.view_is
-    c.requires.shows c.requires.live in
+    let running = runs_inside _ _ _ _ _ c.self.view_is c.requires.shows c.requires.live in
     let can = can_begin c.steps_can_begin.ensures _ task c.self.inside.track running c.requires.shows.verified in
     rw (c.program.ensures.same, c.verified.ensures.same) can.active
 
@@ -29,19 +29,16 @@ returns-clause-shows g c =
       outcome = c.self.inside.outcome;
     } in
     let shows : Shows number blocks task slot =
-    subst (λ (s : SlotState). Shows number blocks task s) (sym c.self.view_is) c.requires.shows in
+    rw c.self.view_is c.requires.shows in
     let live : slot.status ≡ status.Live = ap (λ (s : SlotState). s.status) c.self.view_is ∙ c.requires.live in
     let same : c.program.result.now.functions ≡ functions_of task.verified =
     ap (λ (p : Program). p.functions)
     (c.program.ensures.same ∙ ap (λ (v : TypedProgram). v.program) c.verified.ensures.same) in
-    let stand = subst (λ (fs : List Function). (calls : List Active) → StandAll fs slot.trace.frames calls →
-    StandAll fs c.settle.new.self.frames calls) same c.settle.ensures.stand in
-    subst (λ (t : TrackState ℕ). Shows number blocks task (record slot { trace = t })) (sym c.settle.ensures.same)
-    (settled_shows number blocks task slot c.settle.new.self.frames shows live stand)
+    let stand = rw same at c.settle.ensures.stand in
+    rw c.settle.ensures.same (settled_shows number blocks task slot c.settle.new.self.frames shows live stand)
 
 pub returns-clause-settled : goal.returns-clause-settled
 returns-clause-settled g c =
-    let same : c.program.result.now.functions ≡ functions_of c.args.job.now.verified =
-    ap (λ (p : Program). p.functions)
+    let same : c.program.result.now.functions ≡ functions_of c.args.job.now.verified = ap (λ (p : Program). p.functions)
     (c.program.ensures.same ∙ ap (λ (v : TypedProgram). v.program) c.verified.ensures.same) in
     subst (λ (fs : List Function). IsSettled fs c.settle.new.self.frames) same c.settle.ensures.settled

@@ -1,15 +1,13 @@
-use Rattle.std.proofs.Common.{◌+◌, [], length, sym, subst, arith}
-use Rattle.vcode_base.specs.declared.op.Op.{Op}
+use Rattle.std.proofs.Common.{◌+◌, length, subst, arith}
 use Rattle.job_steps.specs.States.{ruled}
-use Rattle.job_slots.specs.Answers.{IsAnswered}
 use Rattle.job_slots.specs.Commits.{CountsAs, held_under}
 use Rattle.job_slots.specs.Slots.{SlotState}
 use Rattle.job_slots.proofs.NoOperands.{answered}
 use Rattle.job_slots.proofs.Started.{runs}
 use Rattle.job_slots.proofs.slot.Slot.step_without_operands.Goals as goal
 
-pub take_results-requires-clause-made : goal.take_results-requires-clause-made
-take_results-requires-clause-made g c =
+pub carry_out-requires-clause-made : goal.carry_out-requires-clause-made
+carry_out-requires-clause-made g c =
     let task = ruled c.args.turn.rule c.args.job.now in
     let number = c.args.turn.number in
     let slot = c.args.self.now in
@@ -19,10 +17,8 @@ take_results-requires-clause-made g c =
     c.args.blocks.now + length list) s.trace.peak c.in-Some.words) c.self.view_is c.in-Some.ensures.1 in
     record {
       answered =
-          subst (λ (op : Op). IsAnswered task slot.trace.executed op c.flag-flag.result list [])
-          (sym c.op-op.ensures)
-          (answered c.steps_can_begin.ensures number c.args.blocks.now task slot.trace
-          (runs number c.args.blocks.now task slot c.requires.shows c.requires.live) c.requires.shows.verified among
-          list c.requires.next c.requires.list c.requires.no_operands c.flag-flag.result (c.flag-flag.ensures among));
+          rw c.op-op.ensures (answered c.steps_can_begin.ensures number c.args.blocks.now task slot.trace
+          (runs _ _ _ _ c.requires.can.shows c.requires.can.live) c.requires.can.shows.verified among list
+          c.requires.next c.requires.list c.requires.no_operands c.flag-flag.result (c.flag-flag.ensures among));
       counted = omega (arith, counted);
     }

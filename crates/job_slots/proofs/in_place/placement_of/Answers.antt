@@ -5,7 +5,7 @@ use Rattle.job_memory.specs.JobBlocks.{held_words}
 use Rattle.job_steps.specs.States.{ruled}
 use Rattle.job_slots.specs.InPlace.{result_count}
 use Rattle.job_slots.proofs.InPlace.{is_placeable}
-use Rattle.job_slots.proofs.in_place.placement_of_long.Goals as goal
+use Rattle.job_slots.proofs.in_place.placement_of.Goals as goal
 
 pub returns : goal.returns
 returns g c =
@@ -14,24 +14,10 @@ returns g c =
     let sources = c.requires.ready.0 in
     let is = c.requires.ready.1 in
     let count : length (result_kinds ready.op) ≡ result_count needs.second =
-    omega (
-      arith,
-      ap length c.result_kinds.ensures,
-      c.result_count.ensures,
-      c.if-result_kinds-result_count.false,
-    ) in
+    omega (arith, ap length c.result_kinds.ensures) in
     let words : c.limits.result.words ≡ c.args.job.now.limits.words = ap (λ (l : Limits). l.words) c.limits.ensures in
     let room : held_words c.args.turn.number c.args.blocks.now + needs.first + needs.second
-    ≤ c.args.job.now.limits.words =
-    omega (
-      arith,
-      words,
-      c.held-held.ensures.value,
-      c.saturating_add.ensures,
-      c.saturating_add-2.ensures,
-      c.if-limits-saturating_add.false,
-      c.args.job.now.limits.words_in_range,
-    ) in
+    ≤ c.args.job.now.limits.words = omega arith in
     is_placeable c.steps_can_begin.ensures c.held_is_counted.ensures c.args.turn.number c.args.blocks.now
     (ruled c.args.turn.rule c.args.job.now) c.args.track.now c.requires.running c.requires.verified ready.op ready.line
     sources is.next c.requires.no_list c.used-used.ensures.tidy needs.first needs.second ready.flag is.kinds
