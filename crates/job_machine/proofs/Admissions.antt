@@ -1,8 +1,8 @@
 -- Who is admitted next, and who is passed by.
-use Rattle.std.proofs.Common.{◌≡◌, ℕ, zero, suc, ◌+◌, ◌<◌, ◌≤◌, Bool, true, false, cond, ◌||◌, ◌&&◌, List, [], ◌∷◌}
-use Rattle.std.proofs.Common.{length, map, set, drop, get_or, slice_get, Some, None, refl, sym, ◌∙◌, ap, subst, arith}
+use Rattle.std.proofs.Common.{◌≡◌, ℕ, zero, suc, ◌+◌, ◌<◌, ◌≤◌, Bool, true, false, cond, ◌||◌, List, [], ◌∷◌, length}
+use Rattle.std.proofs.Common.{map, set, drop, get_or, slice_get, Some, None, refl, sym, ◌∙◌, ap, subst, arith}
 use Rattle.std.proofs.Common.{drop-cons}
-use Rattle.std.specs.Prelude.{nat_le, IsTrue, ◌↔◌}
+use Rattle.std.specs.Prelude.{IsTrue, ◌↔◌}
 use Rattle.std.proofs.lemmas.Bool.{le-leb, lt-leb, cases_lt, false≢true}
 use Rattle.std.proofs.lemmas.List.{drop_all}
 use Rattle.std.proofs.lemmas.Option.{none-some, same_Some, slice_get_read, slice_get-get_or, get_or_from_slice_get}
@@ -29,10 +29,6 @@ rest_by rule blocks waits first jobs slots passes =
     (admission_from first (has_room blocks.memory.room (granted_words blocks)) (map (ruled rule) jobs)
     (standings_of slots) passes)
 
-or_true : (b : Bool) → (b || true) ≡ true
-or_true true = refl
-or_true false = refl
-
 -- the job at a place, with its slot and its passes, and those after it
 pub record HasHeads (jobs : List JobValue) (slots : List SlotState) (passes : List ℕ) (place : ℕ) (job : JobValue)
     (slot : SlotState) (count : ℕ) : Type 0 where
@@ -49,8 +45,8 @@ has_heads jobs slots passes place job slot d within same long job_is slot_is = g
 -- some job is at a place
 pub some_heads : (jobs : List JobValue) (slots : List SlotState) (passes : List ℕ) (place : ℕ) (slot : SlotState)
     (d : ℕ) → place < length slots → length slots ≡ length jobs → length passes ≡ length jobs →
-    slot ≡ get_or slots place slot → (job : JobValue) × HasHeads jobs slots passes place job slot (get_or passes place
-    d)
+    slot ≡ get_or slots place slot → (job : JobValue) × HasHeads jobs slots passes place job slot
+    (get_or passes place d)
 some_heads jobs slots passes place slot d within same long slot_is =
     let slot_at = slice_get_read slots (length slots) place slot refl within slot_is in
     let job = beside_at slots jobs (sym same) place slot slot_at in (
@@ -60,43 +56,23 @@ some_heads jobs slots passes place slot d within same long slot_is =
     )
 
 -- the result of a test of room
-pub fits_by : (b : Bool) (room granted words own : ℕ) → b ≡ true → (IsTrue b ↔ (granted + words ≤ room)) →
-    words ≡ own → granted + own ≤ room
-fits_by true room granted words own b_is both same = let fits = both.0 refl in omega (arith, fits, same)
-fits_by false room granted words own b_is both same = absurd (false≢true b_is)
+pub fits_by : (b : Bool) (room granted words own : ℕ) → b ≡ true → (IsTrue b ↔ (granted + words ≤ room)) → words ≡ own →
+    granted + own ≤ room
+fits_by b room granted words own b_is both same = grind (arith, false≢true)
 
 pub past_by : (b : Bool) (room granted words own : ℕ) → b ≡ false → (IsTrue b ↔ (granted + words ≤ room)) →
     words ≡ own → room < granted + own
-past_by true room granted words own b_is both same = absurd (false≢true (sym b_is))
-past_by false room granted words own b_is both same = grind (arith, cases_lt)
+past_by b room granted words own b_is both same = grind (arith, false≢true, cases_lt)
 
 -- what is answered from a place on
 abbrev pub rest_at : Rule → JobBlocks → List JobValue → List SlotState → List ℕ → Bool → ℕ → Admission
 rest_at rule blocks jobs slots passes waits place =
     rest_by rule blocks waits (suc place) (drop place jobs) (drop place slots) (drop place passes)
 
--- by the job at that place
-rest_here : (rule : Rule) (blocks : JobBlocks) (jobs : List JobValue) (slots : List SlotState) (passes : List ℕ)
-    (waits : Bool) (place : ℕ) (job : JobValue) (slot : SlotState) (count : ℕ) →
-    HasHeads jobs slots passes place job slot count → (w f m : Bool) → is_waiting (standing_of slot) ≡ w →
-    has_room blocks.memory.room (granted_words blocks) (ruled rule job) ≡ f → nat_le MOST_PASSES count ≡ m →
-    rest_at rule blocks jobs slots passes waits place
-    ≡ admission_by (waits || (w || any_waits (standings_of (drop (suc place) slots))))
-    (cond (w && f) (Some (suc place)) (cond (w && m) None
-    (admission_from (suc (suc place)) (has_room blocks.memory.room (granted_words blocks))
-    (map (ruled rule) (drop (suc place) jobs)) (standings_of (drop (suc place) slots)) (drop (suc place) passes))))
-rest_here rule blocks jobs slots passes waits place job slot count h w f m w_is f_is m_is =
-    (λ i. rest_by rule blocks waits (suc place) (h.jobs_are i) (h.slots_are i) (h.passes_are i))
-    ∙ (λ i. admission_by (waits || (w_is i || any_waits (standings_of (drop (suc place) slots))))
-    (cond (w_is i && f_is i) (Some (suc place)) (cond (w_is i && m_is i) None
-    (admission_from (suc (suc place)) (has_room blocks.memory.room (granted_words blocks))
-    (map (ruled rule) (drop (suc place) jobs)) (standings_of (drop (suc place) slots)) (drop (suc place) passes)))))
-
 to_next : (rule : Rule) (blocks : JobBlocks) (jobs : List JobValue) (slots : List SlotState) (passes : List ℕ)
-    (waits : Bool) (place next : ℕ) → next ≡ suc place →
-    rest_at rule blocks jobs slots passes waits (suc place) ≡ rest_at rule blocks jobs slots passes waits next
-to_next rule blocks jobs slots passes waits place next next_is =
-    ap (rest_at rule blocks jobs slots passes waits) (sym next_is)
+    (waits : Bool) (place next : ℕ) → next ≡ suc place → rest_at rule blocks jobs slots passes waits (suc place) ≡
+    rest_at rule blocks jobs slots passes waits next
+to_next rule blocks jobs slots passes waits place next next_is = grind (arith, rest_at)
 
 -- a job that doesn't wait
 pub rest_skips : (rule : Rule) (blocks : JobBlocks) (jobs : List JobValue) (slots : List SlotState) (passes : List ℕ)
@@ -104,7 +80,7 @@ pub rest_skips : (rule : Rule) (blocks : JobBlocks) (jobs : List JobValue) (slot
     HasHeads jobs slots passes place job slot count → next ≡ suc place → is_waiting (standing_of slot) ≡ false →
     rest_at rule blocks jobs slots passes waits place ≡ rest_at rule blocks jobs slots passes waits next
 rest_skips rule blocks jobs slots passes waits place next job slot count h next_is w_is =
-    grind (arith, rest_here, to_next)
+    grind (arith, rest_by, admission_by, has_room, to_next)
 
 -- the first that waits and fits
 pub rest_admits : (rule : Rule) (blocks : JobBlocks) (jobs : List JobValue) (slots : List SlotState) (passes : List ℕ)
@@ -113,10 +89,7 @@ pub rest_admits : (rule : Rule) (blocks : JobBlocks) (jobs : List JobValue) (slo
     granted_words blocks + job.limits.words ≤ blocks.memory.room →
     rest_at rule blocks jobs slots passes waits place ≡ Admitted next
 rest_admits rule blocks jobs slots passes waits place next job slot count h next_is w_is fits =
-    grind (arith, rest_here, le-leb)
-
-too_many : (a b : ℕ) → b < a → nat_le a b ≡ false
-too_many a b past = lt-leb a b past
+    grind (arith, rest_by, admission_by, has_room, le-leb)
 
 -- a job that waits, doesn't fit, and was passed by as often as a job may be
 pub rest_stops : (rule : Rule) (blocks : JobBlocks) (jobs : List JobValue) (slots : List SlotState) (passes : List ℕ)
@@ -125,7 +98,7 @@ pub rest_stops : (rule : Rule) (blocks : JobBlocks) (jobs : List JobValue) (slot
     blocks.memory.room < granted_words blocks + job.limits.words → MOST_PASSES ≤ count →
     rest_at rule blocks jobs slots passes waits place ≡ NotNow
 rest_stops rule blocks jobs slots passes waits place job slot count h w_is past most =
-    grind (arith, rest_here, too_many, le-leb, or_true)
+    grind (arith, rest_by, admission_by, has_room, lt-leb, le-leb)
 
 -- a job that waits, doesn't fit, and is passed by
 pub rest_passes : (rule : Rule) (blocks : JobBlocks) (jobs : List JobValue) (slots : List SlotState) (passes : List ℕ)
@@ -134,26 +107,21 @@ pub rest_passes : (rule : Rule) (blocks : JobBlocks) (jobs : List JobValue) (slo
     blocks.memory.room < granted_words blocks + job.limits.words → count < MOST_PASSES →
     rest_at rule blocks jobs slots passes waits place ≡ rest_at rule blocks jobs slots passes true next
 rest_passes rule blocks jobs slots passes waits place next job slot count h next_is w_is past few =
-    grind (arith, rest_here, too_many, or_true, to_next)
-
-none_left : (rule : Rule) (blocks : JobBlocks) (waits : Bool) (first : ℕ) (passes : List ℕ) →
-    rest_by rule blocks waits first [] [] passes ≡ cond waits NotNow NoneWaiting
-none_left rule blocks true first passes = refl
-none_left rule blocks false first passes = refl
+    grind (arith, rest_by, admission_by, has_room, lt-leb, to_next)
 
 -- no job is left
 pub rest_ends : (rule : Rule) (blocks : JobBlocks) (jobs : List JobValue) (slots : List SlotState) (passes : List ℕ)
     (waits : Bool) (place : ℕ) → length slots ≤ place → length slots ≡ length jobs →
     rest_at rule blocks jobs slots passes waits place ≡ cond waits NotNow NoneWaiting
-rest_ends rule blocks jobs slots passes waits place past same = grind (arith, drop_all, none_left)
+rest_ends rule blocks jobs slots passes waits place past same = grind (arith, drop_all)
 
 -- ---- one pass more
 
 -- one job more may be passed by
 before_more : (place : ℕ) (standings : List Standing) (passes : List ℕ) (s : Standing) (count : ℕ) →
     slice_get standings place ≡ Some s → slice_get passes place ≡ Some count →
-    passes_before (suc place) standings passes
-    ≡ set (passes_before place standings passes) place (passed_once_more s count)
+    passes_before (suc place) standings passes ≡ set (passes_before place standings passes) place
+    (passed_once_more s count)
 before_more place [] passes s count s_is count_is = absurd (none-some s s_is)
 before_more place (z ∷ standings) [] s count s_is count_is = absurd (none-some count count_is)
 before_more zero (z ∷ standings) (n ∷ passes) s count s_is count_is = grind (arith, same_Some)
@@ -164,16 +132,12 @@ before_more (suc place) (z ∷ standings) (n ∷ passes) s count s_is count_is =
 before_at : (place : ℕ) (standings : List Standing) (passes : List ℕ) →
     slice_get (passes_before place standings passes) place ≡ slice_get passes place
 before_at zero standings passes = refl
-before_at (suc place) [] passes = refl
-before_at (suc place) (s ∷ standings) [] = refl
-before_at (suc place) (s ∷ standings) (count ∷ passes) = before_at place standings passes
+before_at (suc place) standings passes = grind (arith, (before_at place))
 
 pub before_length : (place : ℕ) (standings : List Standing) (passes : List ℕ) →
     length (passes_before place standings passes) ≡ length passes
 before_length zero standings passes = refl
-before_length (suc place) [] passes = refl
-before_length (suc place) (s ∷ standings) [] = refl
-before_length (suc place) (s ∷ standings) (count ∷ passes) = omega (arith, before_length place standings passes)
+before_length (suc place) standings passes = grind (arith, (before_length place))
 
 -- the counts as far as a place, and what the next job makes of them
 pub record Counts (standings : List Standing) (old now : List ℕ) (place : ℕ) : Type 0 where
@@ -186,9 +150,8 @@ here : (standings : List Standing) (old now : List ℕ) (place : ℕ) → Counts
 here standings old now place c d =
     let at = slice_get-get_or old place d (omega (arith, c.same, c.within)) in
     let same = before_at place standings old ∙ at in
-    at ∙ ap (λ (k : ℕ). Some k)
-    (sym (get_or_from_slice_get (passes_before place standings old) place (get_or old place d) d same)
-    ∙ ap (λ (ks : List ℕ). get_or ks place d) (sym c.now_is))
+    at ∙ ap (λ (k : ℕ). Some k) (sym (get_or_from_slice_get (passes_before place standings old) place
+    (get_or old place d) d same) ∙ ap (λ (ks : List ℕ). get_or ks place d) (sym c.now_is))
 
 -- a count is few before it grows
 pub count_few : (standings : List Standing) (old now : List ℕ) (place : ℕ) → Counts standings old now place →
@@ -203,12 +166,11 @@ pub counts_more : (standings : List Standing) (old now new : List ℕ) (place ne
     Counts standings old now place → slice_get standings place ≡ Some s → is_waiting s ≡ true → next ≡ suc place →
     new ≡ set now place (get_or now place 0 + 1) → new ≡ passes_before next standings old
 counts_more standings old now new place next s c s_is waits next_is new_is =
-    let more : passed_once_more s (get_or now place 0) ≡ get_or now place 0 + 1 =
-    ap (λ (b : Bool). cond b (suc (get_or now place 0)) (get_or now place 0)) waits ∙ omega arith in
-    new_is
-    ∙ (λ i. set (c.now_is i) place (sym more i))
-    ∙ sym (before_more place standings old s (get_or now place 0) s_is (here standings old now place c 0))
-    ∙ ap (λ (k : ℕ). passes_before k standings old) (sym next_is)
+    let more : passed_once_more s (get_or now place 0) ≡ get_or now place 0 + 1 = ap
+    (λ (b : Bool). cond b (suc (get_or now place 0)) (get_or now place 0)) waits ∙ omega arith in
+    new_is ∙ (λ i. set (c.now_is i) place (sym more i)) ∙ sym
+    (before_more place standings old s (get_or now place 0) s_is (here standings old now place c 0)) ∙ ap
+    (λ (k : ℕ). passes_before k standings old) (sym next_is)
 
 -- one that doesn't fit isn't
 pub counts_still : (standings : List Standing) (old now new : List ℕ) (place next : ℕ) (s : Standing) →
@@ -217,11 +179,8 @@ pub counts_still : (standings : List Standing) (old now new : List ℕ) (place n
 counts_still standings old now new place next s c s_is waits next_is new_is =
     let count : ℕ = get_or now place 0 in
     let more : passed_once_more s count ≡ count = ap (λ (b : Bool). cond b (suc count) count) waits in
-    let at : slice_get now place ≡ Some count =
-    ap (λ (ks : List ℕ). slice_get ks place) c.now_is
-    ∙ (before_at place standings old ∙ here standings old now place c 0) in
-    new_is
-    ∙ sym (set_back now place count at)
-    ∙ (λ i. set (c.now_is i) place (sym more i))
-    ∙ sym (before_more place standings old s count s_is (here standings old now place c 0))
-    ∙ ap (λ (k : ℕ). passes_before k standings old) (sym next_is)
+    let at : slice_get now place ≡ Some count = ap (λ (ks : List ℕ). slice_get ks place) c.now_is ∙
+    (before_at place standings old ∙ here standings old now place c 0) in
+    new_is ∙ sym (set_back now place count at) ∙ (λ i. set (c.now_is i) place (sym more i)) ∙ sym
+    (before_more place standings old s count s_is (here standings old now place c 0)) ∙ ap
+    (λ (k : ℕ). passes_before k standings old) (sym next_is)

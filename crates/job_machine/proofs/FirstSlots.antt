@@ -1,7 +1,6 @@
 -- A machine whose jobs all wait is sound.
-use Rattle.std.proofs.Common.{◌≡◌, ℕ, zero, suc, ◌+◌, ◌-◌, ◌≤◌, ◌==◌, Bool, true, false, cond, List, [], ◌∷◌}
-use Rattle.std.proofs.Common.{length, map, ◌++◌}
-use Rattle.std.proofs.Common.{replicate, get_or, slice_get, All, Option, Some, None, refl, sym, ◌∙◌, ap, subst, arith}
+use Rattle.std.proofs.Common.{◌≡◌, ℕ, zero, suc, ◌+◌, ◌-◌, ◌≤◌, cond, List, [], ◌∷◌, length, map, ◌++◌, replicate}
+use Rattle.std.proofs.Common.{get_or, slice_get, All, Option, Some, None, refl, sym, ◌∙◌, ap, subst, arith}
 use Rattle.std.specs.Prelude.{sum_by, nat_lt}
 use Rattle.std.proofs.lemmas.List.Folds.{sum_by-replicate}
 use Rattle.std.proofs.lemmas.Option.{none-some, same_Some, slice_get_within}
@@ -25,16 +24,9 @@ get_replicate zero k x = refl
 get_replicate (suc n) zero x = refl
 get_replicate (suc n) (suc k) x = get_replicate n k x
 
-either : {X : Type 0} (b : Bool) (x : X) → cond b x x ≡ x
-either true x = refl
-either false x = refl
-
 pub none_seen : (job n : ℕ) → map (slot_seen_by job) (replicate n empty_slot) ≡ replicate n empty_slot
 none_seen job zero = refl
-none_seen job (suc n) =
-    let here : slot_seen_by job empty_slot ≡ empty_slot = either (0 == job) empty_slot in
-    let rest = none_seen job n in
-    λ i. here i ∷ rest i
+none_seen job (suc n) = grind (arith, (none_seen job n))
 
 no_words : (n : ℕ) → words_in (replicate n empty_slot) ≡ 0
 no_words n = sum_by-replicate (λ (slot : Slot). length slot.words) n empty_slot ∙ omega arith
@@ -48,21 +40,19 @@ sum_to_none (suc n) f none = omega (arith, sum_to_none n f none, none (suc n))
 
 -- blocks of jobs without a block and without a grant
 abbrev pub first_blocks : (region most jobs : ℕ) → JobBlocks
-first_blocks region most jobs = record {
-  memory = record { room = region; slots = replicate most empty_slot };
-  grants = replicate jobs None;
-}
+first_blocks region most jobs =
+    record { memory = record { room = region; slots = replicate most empty_slot }; grants = replicate jobs None }
 
 -- each slot is new, and that of the job at its place
 abbrev pub AreNewSlots : List JobValue → List SlotState → Type 0
 AreNewSlots jobs slots =
-    (place : ℕ) (job : JobValue) (slot : SlotState) → slice_get jobs place ≡ Some job →
-    slice_get slots place ≡ Some slot → IsNewSlot job slot
+    (place : ℕ) (job : JobValue) (slot : SlotState) → slice_get jobs place ≡ Some job → slice_get slots place ≡ Some
+    slot → IsNewSlot job slot
 
 -- the job of a task at a place
 pub job_at : (rule : Rule) (jobs : List JobValue) (place : ℕ) (task : Task) →
-    slice_get (map (ruled rule) jobs) place ≡ Some task →
-    (job : JobValue) × (slice_get jobs place ≡ Some job) × (ruled rule job ≡ task)
+    slice_get (map (ruled rule) jobs) place ≡ Some task → (job : JobValue) × (slice_get jobs place ≡ Some job) ×
+    (ruled rule job ≡ task)
 job_at rule [] place task e = absurd (none-some task e)
 job_at rule (j ∷ jobs) zero task e = (j, refl, same_Some (ruled rule j) task e)
 job_at rule (j ∷ jobs) (suc place) task e = job_at rule jobs place task e
@@ -72,8 +62,8 @@ none_passed zero = All-nil (λ (k : ℕ). k ≤ MOST_PASSES)
 none_passed (suc n) = All-cons (λ (k : ℕ). k ≤ MOST_PASSES) 0 (replicate n 0) (omega arith) (none_passed n)
 
 -- before the first event none was passed by
-pub no_passes : (rule : Rule) (jobs : List JobValue) →
-    replicate {A = ℕ} (length jobs) 0 ≡ map (λ (task : Task). 0) (map (ruled rule) jobs)
+pub no_passes : (rule : Rule) (jobs : List JobValue) → replicate {A = ℕ} (length jobs) 0 ≡ map (λ (task : Task). 0)
+    (map (ruled rule) jobs)
 no_passes rule [] = refl
 no_passes rule (j ∷ jobs) = ap (λ (ks : List ℕ). 0 ∷ ks) (no_passes rule jobs)
 
@@ -81,9 +71,8 @@ sound_at_first : NewIsShown → (rule : Rule) (region most : ℕ) (jobs : List J
     most ≡ sum_by (λ (task : Task). task.limits.cells) (map (ruled rule) jobs) + 2 →
     length slots ≡ length (map (ruled rule) jobs) → length (map (ruled rule) jobs) ≤ MOST_JOBS → 1 ≤ region →
     region ≤ MOST_WORDS → All (λ (task : Task). task.limits.words ≤ region) (map (ruled rule) jobs) →
-    AreNewSlots jobs slots →
-    IsSound (first_blocks region most (length (map (ruled rule) jobs))) (map (ruled rule) jobs) slots
-    (replicate {A = ℕ} (length (map (ruled rule) jobs)) 0)
+    AreNewSlots jobs slots → IsSound (first_blocks region most (length (map (ruled rule) jobs))) (map (ruled rule) jobs)
+    slots (replicate {A = ℕ} (length (map (ruled rule) jobs)) 0)
 sound_at_first shown rule region most jobs slots most_is same few least greatest fitting new =
     let tasks : List Task = map (ruled rule) jobs in
     record {
@@ -119,9 +108,8 @@ sound_at_first shown rule region most jobs slots most_is same few least greatest
     }
 
 -- the cells of all jobs
-sum_cells : (rule : Rule) (jobs : List JobValue) →
-    sum_by (λ (job : JobValue). job.limits.cells) jobs
-    ≡ sum_by (λ (task : Task). task.limits.cells) (map (ruled rule) jobs)
+sum_cells : (rule : Rule) (jobs : List JobValue) → sum_by (λ (job : JobValue). job.limits.cells) jobs ≡ sum_by
+    (λ (task : Task). task.limits.cells) (map (ruled rule) jobs)
 sum_cells rule [] = refl
 sum_cells rule (j ∷ jobs) =
     omega (
@@ -133,26 +121,24 @@ sum_cells rule (j ∷ jobs) =
 
 pub first_is_sound : NewIsShown → (rule : Rule) (blocks : JobBlocks) (region most count : ℕ) (jobs : List JobValue)
     (slots : List SlotState) → blocks.memory ≡ record { room = region; slots = replicate most empty_slot } →
-    blocks.grants ≡ replicate count None → count ≡ length jobs →
-    most ≡ sum_by (λ (job : JobValue). job.limits.cells) jobs + 2 → length slots ≡ length jobs →
-    length jobs ≤ MOST_JOBS → 1 ≤ region → region ≤ MOST_WORDS →
+    blocks.grants ≡ replicate count None → count ≡ length jobs → most ≡ sum_by (λ (job : JobValue). job.limits.cells)
+    jobs + 2 → length slots ≡ length jobs → length jobs ≤ MOST_JOBS → 1 ≤ region → region ≤ MOST_WORDS →
     All (λ (job : JobValue). job.limits.words ≤ region) jobs → AreNewSlots jobs slots →
     IsSound blocks (map (ruled rule) jobs) slots (replicate count 0)
 first_is_sound shown rule blocks region most count jobs slots memory grants count_is most_is same few least greatest
     fitting new =
     let tasks : List Task = map (ruled rule) jobs in
     let long : length tasks ≡ length jobs = length-map jobs (ruled rule) in
-    let grants_are : blocks.grants ≡ replicate (length tasks) None =
-    grants ∙ ap (λ (n : ℕ). replicate n None) (count_is ∙ sym long) in
-    let are : first_blocks region most (length tasks) ≡ blocks =
-    λ i. record { memory = sym memory i; grants = sym grants_are i } in
-    let passes_are : replicate {A = ℕ} (length tasks) 0 ≡ replicate {A = ℕ} count 0 =
-    ap (λ (n : ℕ). replicate {A = ℕ} n 0) (long ∙ sym count_is) in
+    let grants_are : blocks.grants ≡ replicate (length tasks) None = grants ∙ ap (λ (n : ℕ). replicate n None)
+    (count_is ∙ sym long) in
+    let are : first_blocks region most (length tasks) ≡ blocks = λ i. record
+    { memory = sym memory i; grants = sym grants_are i } in
+    let passes_are : replicate {A = ℕ} (length tasks) 0 ≡ replicate {A = ℕ} count 0 = ap
+    (λ (n : ℕ). replicate {A = ℕ} n 0) (long ∙ sym count_is) in
     subst (λ (bs : JobBlocks). IsSound bs tasks slots (replicate count 0)) are
     (subst (IsSound (first_blocks region most (length tasks)) tasks slots) passes_are
     (sound_at_first shown rule region most jobs slots (most_is ∙ ap (λ n. n + 2) (sum_cells rule jobs))
-    (same ∙ sym long)
-    (omega (arith, few, long)) least greatest
+    (same ∙ sym long) (omega (arith, few, long)) least greatest
     (All-map (λ (task : Task). task.limits.words ≤ region) (ruled rule) jobs fitting) new))
 
 -- jobs whose slots are new wait
@@ -162,8 +148,8 @@ all_wait rule [] [] same new = refl
 all_wait rule [] (s ∷ ss) same new = absurd (omega (arith, same))
 all_wait rule (j ∷ js) [] same new = absurd (omega (arith, same))
 all_wait rule (j ∷ js) (s ∷ ss) same new =
-    let here : standing_of s ≡ Waiting =
-    ap (λ (k : Status). standing_by k s.trace.executed) (new 0 j s refl refl).status_is in
+    let here : standing_of s ≡ Waiting = ap (λ (k : Status). standing_by k s.trace.executed)
+    (new 0 j s refl refl).status_is in
     let rest = all_wait rule js ss (omega (arith, same)) (λ place job slot. new (suc place) job slot) in
     λ i. here i ∷ rest i
 

@@ -1,6 +1,5 @@
 -- A desk for each job, when no step has begun.
-use Rattle.std.proofs.Common.{arith}
-use Rattle.std.proofs.Common.{◌≡◌, ℕ, zero, suc, ◌<◌, false, List, [], ◌∷◌, ◌++◌, length, map, take, get_or}
+use Rattle.std.proofs.Common.{arith, ◌≡◌, ℕ, zero, suc, ◌<◌, false, List, [], ◌∷◌, ◌++◌, length, map, take, get_or}
 use Rattle.std.proofs.Common.{slice_get, option_map, Some, refl, sym, ◌∙◌, ap, subst}
 use Rattle.std.proofs.Math.Seq.{take-suc}
 use Rattle.std.proofs.lemmas.List.{map-append, length-map}
@@ -8,7 +7,7 @@ use Rattle.std.proofs.lemmas.Simd.{map-map}
 use Rattle.std.proofs.lemmas.Option.{none-some, same_Some, slice_get-map}
 use Rattle.vcode_base.specs.declared.rule.Rule.{Rule}
 use Rattle.job_steps.specs.Events.{recalled_standing}
-use Rattle.job_steps.specs.Standings.{Standing, Waiting, Live, InFlight, Ended, Collected, of_job}
+use Rattle.job_steps.specs.Standings.{Standing, of_job}
 use Rattle.job_steps.specs.States.{JobValue, Task, ruled}
 use Rattle.job_slots.specs.Answers.{is_in_flight}
 use Rattle.job_machine.specs.declared.workbench.Workplace.{Workplace}
@@ -36,19 +35,14 @@ pub fresh_more : {A : Type 0} (jobs : List JobValue) (workbench after : List (Wo
     after ≡ fresh_jobs (take next jobs)
 fresh_more {A} jobs workbench after place next desk job next_is within job_is workbench_is desk_is after_is =
     let words_of : JobValue → Workplace A = λ job. workplace.Free job.limits.words in
-    let own : workplace.Free desk ≡ words_of (get_or jobs place job) =
-    ap (λ words. workplace.Free words) desk_is ∙ ap words_of job_is in
-    after_is
-    ∙ ((λ i. workbench_is i ++ own i ∷ [])
-    ∙ (sym (map-append words_of (take place jobs) (get_or jobs place job ∷ []))
-    ∙ ap fresh_jobs (sym (ap (λ k. take k jobs) next_is ∙ take-suc jobs place job within))))
+    let own : workplace.Free desk ≡ words_of (get_or jobs place job) = ap (λ words. workplace.Free words) desk_is ∙ ap
+    words_of job_is in
+    after_is ∙ ((λ i. workbench_is i ++ own i ∷ []) ∙
+    (sym (map-append words_of (take place jobs) (get_or jobs place job ∷ [])) ∙ ap fresh_jobs
+    (sym (ap (λ k. take k jobs) next_is ∙ take-suc jobs place job within))))
 
 rests : (s : Standing) → is_in_flight (recalled_standing s) ≡ false
-rests Waiting = refl
-rests (Live n) = refl
-rests (InFlight n) = refl
-rests Ended = refl
-rests Collected = refl
+rests s = grind arith
 
 fresh_at : {A : Type 0} (tasks : List Task) (i : ℕ) (h : Workplace A) → slice_get (fresh tasks) i ≡ Some h →
     (task : Task) × (slice_get tasks i ≡ Some task) × (workplace.Free task.limits.words ≡ h)

@@ -1,7 +1,7 @@
 -- Jobs that run by themselves, from a region without a job to one.
-use Rattle.std.proofs.Common.{◌≡◌, ℕ, zero, suc, ◌+◌, ◌-◌, ◌<◌, ◌≤◌, Bool, true, false, cond, List, [], ◌∷◌}
-use Rattle.std.proofs.Common.{length, replicate, get_or, slice_get, map, set, is_some, All, Option, Some, None, refl}
-use Rattle.std.proofs.Common.{sym, ◌∙◌, ap, subst, arith}
+use Rattle.std.proofs.Common.{◌≡◌, ℕ, zero, suc, ◌+◌, ◌-◌, ◌<◌, ◌≤◌, Bool, true, false, List, [], ◌∷◌, length}
+use Rattle.std.proofs.Common.{replicate, get_or, slice_get, map, set, All, Option, Some, None, refl, sym, ◌∙◌, ap}
+use Rattle.std.proofs.Common.{subst, arith}
 use Rattle.std.specs.Prelude.{◌↔◌, IfSome, IsTrue}
 use Rattle.std.proofs.lemmas.Bool.{false≢true}
 use Rattle.std.proofs.lemmas.List.{length-map, map-set}
@@ -13,49 +13,39 @@ use Rattle.refcounts.specs.SharedState.{empty_slot, blocks_in, block_count}
 use Rattle.job_memory.specs.JobBlocks.{JobBlocks, ChangesOnlyOf, own_slots}
 use Rattle.job_memory.specs.Laws.{ChangesJoin}
 use Rattle.job_steps.specs.declared.event.Event.TheVariants.{Finish, Collect}
-use Rattle.job_steps.specs.Events.{early_end, next_standing, standing_after, standing_after_begin}
-use Rattle.job_steps.specs.Runs.{state_after}
-use Rattle.job_steps.specs.Standings.{Standing, Waiting, Live, InFlight, Ended, Collected, of_job, is_waiting}
+use Rattle.job_steps.specs.Events.{next_standing}
+use Rattle.job_steps.specs.Standings.{Standing, Waiting, Live, Ended, Collected, of_job, is_waiting}
 use Rattle.job_steps.specs.States.{JobValue, Task, ruled}
-use Rattle.job_steps.specs.Steps.{Progress, Running, Over, Stuck}
 use Rattle.job_slots.specs.declared.status.Status.{Status}
 use Rattle.job_slots.specs.declared.status.Status.TheVariants as status
-use Rattle.job_slots.specs.Answers.{StepsLead, HasRun, is_live, or_same, standing_after_step}
+use Rattle.job_slots.specs.Answers.{StepsLead, HasRun, is_live, or_same}
 use Rattle.job_slots.specs.Laws.{OthersAreShown, ShownIsAlone}
-use Rattle.job_slots.specs.Slots.{SlotState, Shows, ShowsAs, IsCollectedSlot, HasNumbersOnRun}
-use Rattle.job_slots.specs.Slots.{standing_of, standing_by}
-use Rattle.job_machine.specs.Lanes.{EndedState, IsVacant, IsEndOf, CanAdopt, after_adoption}
+use Rattle.job_slots.specs.Slots.{SlotState, Shows, HasNumbersOnRun, standing_of, standing_by}
+use Rattle.job_machine.specs.Lanes.{IsVacant, IsEndOf, CanAdopt, after_adoption}
 use Rattle.job_machine.specs.Machines.{MachineState, place_of}
 use Rattle.job_machine.specs.Sound.{IsSound}
 use Rattle.job_machine.proofs.FirstSlots.{get_replicate, job_at, none_seen, no_blocks}
 use Rattle.job_machine.proofs.SoundLemmas.{counted_with, place_is}
-use Rattle.job_machine.proofs.TurnLemmas.{HasTurn, shown_machine, some_turn, task_read, turn_shows, turn_sound}
+use Rattle.job_machine.proofs.TurnLemmas.{AreSound, HasTurn, Parts, shown, shown_machine, some_turn, task_read, turned}
+use Rattle.job_machine.proofs.TurnLemmas.{turn_shows, turn_sound}
 
 -- ---- a region without a job
 
-pub first_vacant : (blocks : JobBlocks) (region most : ℕ) →
-    blocks.memory ≡ record { room = region; slots = replicate most empty_slot } →
-    blocks.grants ≡ replicate 1 None → IsVacant blocks
+pub first_vacant : (blocks : JobBlocks) (region most : ℕ) → blocks.memory ≡ record
+    { room = region; slots = replicate most empty_slot } → blocks.grants ≡ replicate 1 None → IsVacant blocks
 first_vacant blocks region most memory grants = grind (arith, no_blocks, none_seen, sum_by-replicate, get_replicate)
 
 -- all blocks stay those of the one job
-pub own_alone : (old new : JobBlocks) → block_count old.memory ≡ blocks_in (own_slots 1 old) →
-    ChangesOnlyOf 1 old new → block_count new.memory ≡ blocks_in (own_slots 1 new)
+pub own_alone : (old new : JobBlocks) → block_count old.memory ≡ blocks_in (own_slots 1 old) → ChangesOnlyOf 1 old new →
+    block_count new.memory ≡ blocks_in (own_slots 1 new)
 own_alone old new counted changes = omega (arith, counted, counted_with 1 old new changes)
 
 -- there are numbers wherever the job leads
-pub lane_numbers : ShownIsAlone → (old between : JobBlocks) (task : Task) → IsVacant old →
-    ChangesOnlyOf 1 old between → task.limits.cells + 2 ≤ length old.memory.slots → HasNumbersOnRun 1 task between
+pub lane_numbers : ShownIsAlone → (old between : JobBlocks) (task : Task) → IsVacant old → ChangesOnlyOf 1 old between →
+    task.limits.cells + 2 ≤ length old.memory.slots → HasNumbersOnRun 1 task between
 lane_numbers alone old between task vacant changes numbers new slot after shows tidy =
     let counted = own_alone between new (own_alone old between vacant.counted changes) after in
-    omega (
-      arith,
-      counted,
-      (alone 1 new task slot tidy shows).few,
-      after.memory.ids,
-      changes.memory.ids,
-      numbers,
-    )
+    omega (arith, counted, (alone 1 new task slot tidy shows).few, after.memory.ids, changes.memory.ids, numbers)
 
 -- ---- jobs by their numbers
 
@@ -98,8 +88,7 @@ pub record IsNumber (rule : Rule) (jobs : List JobValue) (number : ℕ) (task : 
 
 pub is_number : (rule : Rule) (jobs : List JobValue) (number : ℕ) (task : Task) →
     of_job number (map (ruled rule) jobs) ≡ Some task → IsNumber rule jobs number task
-is_number rule jobs zero task e = absurd (none-some task e)
-is_number rule jobs (suc place) task e = grind (arith, job_at, slice_get_within, length-map)
+is_number rule jobs number task e = grind (arith, none-some, job_at, slice_get_within, length-map)
 
 -- a task of another rule isn't this one
 pub of_other_rule : (o : Option Task) (task : Task) (own rule : Rule) (job : JobValue) (same : Bool) → o ≡ Some task →
@@ -107,9 +96,8 @@ pub of_other_rule : (o : Option Task) (task : Task) (own rule : Rule) (job : Job
 of_other_rule o task own rule job same is rule_is differs iff = grind (arith, same_Some)
 
 -- by the same rule it is this one if the jobs are equal
-pub of_same_rule : (o : Option Task) (own rule : Rule) (mine job : JobValue) (same : Bool) →
-    o ≡ Some (ruled own mine) → own ≡ rule → (IsTrue same ↔ (mine ≡ job)) →
-    (IsTrue same ↔ (o ≡ Some (ruled rule job)))
+pub of_same_rule : (o : Option Task) (own rule : Rule) (mine job : JobValue) (same : Bool) → o ≡ Some (ruled own mine) →
+    own ≡ rule → (IsTrue same ↔ (mine ≡ job)) → (IsTrue same ↔ (o ≡ Some (ruled rule job)))
 of_same_rule o own rule mine job same is rule_is iff = grind (arith, same_Some)
 
 -- ---- to the job's end
@@ -123,53 +111,20 @@ IsGoing standing = ⊥
 abbrev finished : ℕ → Task → Standing → Standing
 finished job task begun = or_same begun (next_standing (Finish job) task begun)
 
-going_after : (n : ℕ) (p : Progress) → IsGoing (standing_after n p)
-going_after n (Running s) = tt
-going_after n (Over ending executed peak) = tt
-going_after n Stuck = tt
-
-going_finished : (job : ℕ) (task : Task) (n : ℕ) (ends : Bool) →
-    IsGoing (finished job task (cond ends Ended (InFlight n)))
-going_finished job task n true = tt
-going_finished job task n false = going_after (n + 1) (state_after task (n + 1))
-
-going_begun : (job : ℕ) (task : Task) (n : ℕ) (p : Progress) →
-    IsGoing (finished job task (standing_after_begin task n p))
-going_begun job task n (Running s) = going_finished job task n (is_some (early_end task s))
-going_begun job task n (Over ending executed peak) = tt
-going_begun job task n Stuck = tt
-
-going_step : (job : ℕ) (task : Task) (s : Standing) → IsGoing s → IsGoing (standing_after_step job task s)
-going_step job task Waiting h = absurd h
-going_step job task (Live n) h = going_begun job task n (state_after task n)
-going_step job task (InFlight n) h = absurd h
-going_step job task Ended h = tt
-going_step job task Collected h = absurd h
-
 going_run : (count job : ℕ) (task : Task) (old new : Standing) → StepsLead count job task old new → IsGoing old →
     IsGoing new
 going_run zero job task old new lead h = subst IsGoing (sym lead) h
-going_run (suc count) job task old new lead h =
-    going_run count job task (standing_after_step job task old) new lead.1 (going_step job task old h)
-
-ended_by : (s : Standing) → IsGoing s → is_live s ≡ false → s ≡ Ended
-ended_by Waiting h over = absurd h
-ended_by (Live n) h over = absurd (false≢true (sym over))
-ended_by (InFlight n) h over = absurd h
-ended_by Ended h over = refl
-ended_by Collected h over = absurd h
+going_run (suc count) job task old new lead h = grind (arith, (going_run count))
 
 -- a job that was live and isn't any more has ended
 pub has_ended : (job : ℕ) (task : Task) (old new : Standing) → HasRun job task old new → old ≡ Live 0 →
     is_live new ≡ false → new ≡ Ended
-has_ended job task old new run live over =
-    ended_by new (going_run run.0 job task old new run.1 (subst IsGoing (sym live) tt)) over
+has_ended job task old new run live over = grind (arith, false≢true, going_run, IsGoing)
 
 -- and is collected then
 pub collected_by : (job : ℕ) (task : Task) (old new : Standing) → old ≡ Ended →
     new ≡ or_same old (next_standing (Collect job) task old) → new ≡ Collected
-collected_by job task old new ended stands =
-    stands ∙ ap (λ (s : Standing). or_same s (next_standing (Collect job) task s)) ended
+collected_by job task old new ended stands = grind arith
 
 -- ---- from a collected job
 
@@ -177,56 +132,33 @@ abbrev IsGone : Standing → Type 0
 IsGone Collected = Unit {0}
 IsGone standing = ⊥
 
-gone : (s : Status) (n : ℕ) → IsGone (standing_by s n) → s ≡ status.Collected
-gone status.Waiting n g = absurd g
-gone status.Live n g = absurd g
-gone status.InFlight n g = absurd g
-gone status.Ended n g = absurd g
-gone status.Collected n g = refl
-
-is_collected : (slot : SlotState) → standing_of slot ≡ Collected → slot.status ≡ status.Collected
-is_collected slot e = gone slot.status slot.trace.executed (subst IsGone (sym e) tt)
-
-shown_collected : (number : ℕ) (blocks : JobBlocks) (task : Task) (slot : SlotState) → Shows number blocks task slot →
-    standing_of slot ≡ Collected → IsCollectedSlot (own_slots number blocks) task slot.trace slot.outcome
-shown_collected number blocks task slot shows e =
-    subst (ShowsAs (own_slots number blocks) task slot.trace slot.outcome) (is_collected slot e) shows.shown
-
 -- its slot is that of its end
 pub end_by : (number : ℕ) (blocks : JobBlocks) (task : Task) (slot : SlotState) → Shows number blocks task slot →
     standing_of slot ≡ Collected → IsEndOf task slot
-end_by number blocks task slot shows e = grind (arith, shown_collected, is_collected)
+end_by number blocks task slot shows e = grind (arith, IsGone)
 
 -- no job is in the region
 pub vacant_after : (old new : JobBlocks) (task : Task) (slot : SlotState) → IsVacant old → ChangesOnlyOf 1 old new →
     Shows 1 new task slot → standing_of slot ≡ Collected → IsVacant new
-vacant_after old new task slot vacant changes shows e = grind (arith, is_collected, shown_collected, own_alone)
+vacant_after old new task slot vacant changes shows e = grind (arith, IsGone, own_alone)
 
 -- ---- to a machine
 
 waits_by : (s : Status) (n : ℕ) → is_waiting (standing_by s n) ≡ true → s ≡ status.Waiting
-waits_by status.Waiting n e = refl
-waits_by status.Live n e = absurd (false≢true e)
-waits_by status.InFlight n e = absurd (false≢true e)
-waits_by status.Ended n e = absurd (false≢true e)
-waits_by status.Collected n e = absurd (false≢true e)
+waits_by s n e = grind (arith, false≢true)
 
 pub waits_as : (slot : SlotState) → is_waiting (standing_of slot) ≡ true → standing_of slot ≡ Waiting
 waits_as slot e = ap (λ (s : Status). standing_by s slot.trace.executed) (waits_by slot.status slot.trace.executed e)
 
 -- in the place of a slot that waits, the slot of an end shows its job
 pub adopted_shows : (number : ℕ) (blocks : JobBlocks) (task : Task) (old end : SlotState) →
-    Shows number blocks task old → is_waiting (standing_of old) ≡ true → IsEndOf task end →
-    Shows number blocks task end
+    Shows number blocks task old → is_waiting (standing_of old) ≡ true → IsEndOf task end → Shows number blocks task end
 adopted_shows number blocks task old end shows waits e = grind (arith, waits_by)
 
 -- the machine shows the job collected
-pub adopted_state : {rule : Rule} {passes : List ℕ} (blocks : JobBlocks) {tasks : List Task} {slots : List SlotState}
-    {m : MachineState} {job place : ℕ} {task : Task} {before : SlotState} (end : SlotState) →
-    shown_machine rule blocks tasks slots passes ≡ m → HasTurn tasks slots m job place task before →
-    IsEndOf task end → shown_machine rule blocks tasks (set slots place end) passes ≡ after_adoption true job m
-adopted_state {rule} {passes} blocks {tasks} {slots} {m} {job} {place} {task} {before} end view h e =
-    grind (arith, map-set, shown_machine)
+pub adopted_state : {p : Parts} {m : MachineState} {job place : ℕ} {task : Task} {before : SlotState} (end : SlotState)
+    → HasTurn p m job place task before → IsEndOf task end → turned p p.blocks place end ≡ after_adoption true job m
+adopted_state {p} {m} {job} {place} {task} {before} end h e = grind (arith, map-set, shown_machine)
 
 -- something is at a place
 something_at : {X : Type 0} (xs : List X) (place : ℕ) → place < length xs → (x : X) × (slice_get xs place ≡ Some x)
@@ -234,36 +166,31 @@ something_at [] place within = absurd (omega (arith, within))
 something_at (x ∷ xs) zero within = (x, refl)
 something_at (x ∷ xs) (suc place) within = something_at xs place (omega (arith, within))
 
--- a place of a job is one of a slot
-pub slot_within : {rule : Rule} {passes : List ℕ} (blocks : JobBlocks) (tasks : List Task) (slots : List SlotState)
-    (m : MachineState) (job place : ℕ) → IsSound blocks tasks slots passes →
-    shown_machine rule blocks tasks slots passes ≡ m → place_of (length m.tasks) job ≡ Some place →
-    place < length slots
-slot_within {rule} {passes} blocks tasks slots m job place sound view at = grind (arith, place_is)
+module _ (p : Parts) {m : MachineState} (job place : ℕ) (sound : AreSound p) (view : shown p ≡ m)
+    (at : place_of (length m.tasks) job ≡ Some place) where
+  -- a place of a job is one of a slot
+  pub slot_within : place < length p.slots
+  slot_within = grind (arith, place_is)
 
--- what a machine is after an adoption
-pub record Adopts (rule : Rule) (passes : List ℕ) (blocks : JobBlocks) (tasks : List Task) (slots : List SlotState)
-    (m : MachineState) (job place : ℕ) (end : SlotState) : Type 0 where
-  pub sound : IsSound blocks tasks (set slots place end) passes
-  pub state : shown_machine rule blocks tasks (set slots place end) passes ≡ after_adoption true job m
+  -- what a machine is after an adoption
+  pub record Adopts (end : SlotState) : Type 0 where
+    pub stays_sound : IsSound p.blocks p.tasks (set p.slots place end) p.passes
+    pub state : turned p p.blocks place end ≡ after_adoption true job m
 
-pub adopts : {rule : Rule} {passes : List ℕ} → OthersAreShown → ChangesJoin → (blocks : JobBlocks)
-    (tasks : List Task) (slots : List SlotState) (m : MachineState) (ended : EndedState) (place : ℕ)
-    (end : SlotState) → IsSound blocks tasks slots passes → shown_machine rule blocks tasks slots passes ≡ m →
-    place_of (length m.tasks) ended.job ≡ Some place → CanAdopt m ended →
-    IfSome ended.task (λ task. IsEndOf task end) → Adopts rule passes blocks tasks slots m ended.job place end
-adopts {rule} {passes} others join blocks tasks slots m ended place end sound view at can is =
-    let slot = something_at slots place (slot_within blocks tasks slots m ended.job place sound view at) in
-    let t =
-    some_turn blocks tasks slots m ended.job place (place_of (length m.tasks) ended.job) slot.0 sound view refl at
-    (sym (get_or_from_slice_get slots place slot.0 slot.0 slot.1)) in
-    let waits : standing_of slot.0 ≡ Waiting =
-    same_Some (standing_of slot.0) Waiting (sym t.1.shown_standing ∙ can.waits) in
-    let task_is : ended.task ≡ Some t.0 = sym can.same ∙ t.1.shown_task in
-    let end_is : IsEndOf t.0 end = subst (λ (o : Option Task). IfSome o (λ task. IsEndOf task end)) task_is is in
-    record {
-      sound =
-          turn_sound others sound t.1 ((join ended.job).none blocks)
-          (adopted_shows ended.job blocks t.0 slot.0 end (turn_shows sound t.1) (ap is_waiting waits) end_is);
-      state = adopted_state blocks end view t.1 end_is;
-    }
+  pub adopts : OthersAreShown → ChangesJoin → (task : Option Task) (end : SlotState) →
+      CanAdopt m (record { job = job; task = task }) → IfSome task (λ task. IsEndOf task end) → Adopts end
+  adopts others join task end can is =
+      let slot = something_at p.slots place slot_within in
+      let t =
+      some_turn p job sound view refl place slot.0 at
+      (sym (get_or_from_slice_get p.slots place slot.0 slot.0 slot.1)) in
+      let waits : standing_of slot.0 ≡ Waiting =
+      same_Some (standing_of slot.0) Waiting (sym t.1.shown_standing ∙ can.waits) in
+      let task_is : task ≡ Some t.0 = sym can.same ∙ t.1.shown_task in
+      let end_is : IsEndOf t.0 end = subst (λ (o : Option Task). IfSome o (λ task. IsEndOf task end)) task_is is in
+      record {
+        stays_sound =
+            turn_sound t.1 others sound ((join job).none p.blocks)
+            (adopted_shows job p.blocks t.0 slot.0 end (turn_shows t.1 sound) (ap is_waiting waits) end_is);
+        state = adopted_state end t.1 end_is;
+      }

@@ -1,7 +1,6 @@
 -- Events that are played one after another.
-use Rattle.std.proofs.Common.{arith}
-use Rattle.std.proofs.Common.{◌≡◌, ℕ, zero, suc, ◌<◌, true, false, List, [], ◌∷◌, length, take, get_or, slice_get, Some}
-use Rattle.std.proofs.Common.{Result, Ok, Err, is_err, OnOk, OnErr, sym, ap, subst}
+use Rattle.std.proofs.Common.{arith, ◌≡◌, ℕ, zero, suc, ◌<◌, true, false, List, [], ◌∷◌, length, take, get_or}
+use Rattle.std.proofs.Common.{slice_get, Some, Result, Ok, Err, is_err, OnOk, OnErr, sym, ap, subst}
 use Rattle.std.proofs.lemmas.Bool.{false≢true}
 use Rattle.std.proofs.lemmas.Option.{none-some, same_Some, slice_get-get_or}
 use Rattle.job_steps.specs.declared.event.Event.{Event}
@@ -17,8 +16,7 @@ one_more m (first ∷ events) zero event is = ap (λ k. machine_after k m) (same
 one_more m (first ∷ events) (suc place) event is = one_more (machine_after first m) events place event is
 
 pub played_next : (m self new : MachineState) (events : List Event) (place next : ℕ) (event : Event) →
-    next ≡ suc place →
-    place < length events → self ≡ after_all (take place events) m →
+    next ≡ suc place → place < length events → self ≡ after_all (take place events) m →
     new ≡ machine_after (get_or events place event) self → new ≡ after_all (take next events) m
 played_next m self new events place next event next_is within self_is new_is = grind (arith, one_more, slice_get-get_or)
 
@@ -29,12 +27,10 @@ pub refused_at : (m self new : MachineState) (events : List Event) (place : ℕ)
 refused_at m self new events place event within self_is refusable same = grind (arith, slice_get-get_or)
 
 pub at_err : {T E P : Type 0} (r : Result T E) → true ≡ is_err r → OnErr r P → P
-at_err (Ok x) err p = absurd (false≢true (sym err))
-at_err (Err y) err p = p
+at_err r err p = grind (arith, false≢true)
 
 pub at_ok : {T E P : Type 0} (r : Result T E) → false ≡ is_err r → OnOk r P → P
-at_ok (Ok x) ok p = p
-at_ok (Err y) ok p = absurd (false≢true ok)
+at_ok r ok p = grind (arith, false≢true)
 
 pub leads_by : (event : Event) (m new : MachineState) → new ≡ machine_after event m → Leads m new
 leads_by event m new new_is = subst (Leads m) (sym new_is) (leads_one event m)

@@ -20,6 +20,6 @@ same_without rule xs ys same =
     sym (without_rule rule xs) ∙ (ap (λ (ts : List Task). map job_of ts) same ∙ without_rule rule ys)
 
 -- the most words of jobs
-pub most_ruled : (rule : Rule) (jobs : List JobValue) →
-    fold (λ (most : ℕ) (job : JobValue). max most job.limits.words) 0 jobs ≡ most_words (map (ruled rule) jobs)
+pub most_ruled : (rule : Rule) (jobs : List JobValue) → fold (λ (most : ℕ) (job : JobValue). max most job.limits.words)
+    0 jobs ≡ most_words (map (ruled rule) jobs)
 most_ruled rule jobs = sym (fold-map (λ (most : ℕ) (task : Task). max most task.limits.words) (ruled rule) 0 jobs)

@@ -1,15 +1,14 @@
 -- A machine with one slot changed is sound, and has the standings after an event.
-use Rattle.std.proofs.Common.{◌≡◌, ℕ, zero, suc, ◌+◌, ◌-◌, ◌<◌, ◌≤◌, Bool, true, false, cond, List}
-use Rattle.std.proofs.Common.{[], ◌∷◌}
-use Rattle.std.proofs.Common.{length, set, get_or, slice_get, All, Option, Some, None, refl, sym, ◌∙◌, ap, subst}
-use Rattle.std.proofs.Common.{arith, inl, inr, length-set}
+use Rattle.std.proofs.Common.{◌≡◌, ℕ, zero, suc, ◌+◌, ◌-◌, ◌<◌, ◌≤◌, true, cond, List, [], ◌∷◌, length, set, get_or}
+use Rattle.std.proofs.Common.{slice_get, All, Option, Some, None, refl, sym, ◌∙◌, ap, subst, arith, inl, inr}
+use Rattle.std.proofs.Common.{length-set}
 use Rattle.std.specs.Prelude.{sum_by, nat_lt, option_map}
-use Rattle.std.proofs.lemmas.Bool.{cases_eq, ltb-true, ltb-false}
+use Rattle.std.proofs.lemmas.Bool.{cases_eq, ltb-true}
 use Rattle.std.proofs.lemmas.List.{map-set, set-set}
 use Rattle.std.proofs.lemmas.List.Sums.{sum_by-cons}
-use Rattle.std.proofs.lemmas.Option.{none-some, same_Some, cond_some, slice_get_within, slice_get_past, slice_get-map}
+use Rattle.std.proofs.lemmas.Option.{none-some, same_Some, cond_some, slice_get_within, slice_get-map}
 use Rattle.refcounts.specs.SharedState.{Slot, blocks_in, words_in, block_count}
-use Rattle.job_memory.specs.JobBlocks.{JobBlocks, ChangesOnlyOf, own_slots, held_words, words_of, grant_of}
+use Rattle.job_memory.specs.JobBlocks.{JobBlocks, ChangesOnlyOf, own_slots, held_words, words_of}
 use Rattle.job_memory.specs.JobBlocks as jobs
 use Rattle.job_steps.specs.declared.event.Event.{Event}
 use Rattle.job_steps.specs.declared.event.Event.TheVariants.{Admit, Begin, Finish}
@@ -43,18 +42,7 @@ pub record HasPlace (count job place : ℕ) : Type 0 where
   pub within : place < count
 
 pub place_is : (count job place : ℕ) → place_of count job ≡ Some place → HasPlace count job place
-place_is count zero place e = absurd (none-some place e)
-place_is count (suc k) place e = grind (arith, cond_some, ltb-true)
-
-cond_none : {A : Type 0} (b : Bool) (x : A) → cond b (Some x) None ≡ None → b ≡ false
-cond_none true x e = absurd (none-some x (sym e))
-cond_none false x e = refl
-
--- a number without a place is that of no job
-pub no_place : {E : Type 0} (count job : ℕ) (list : List E) → length list ≡ count → place_of count job ≡ None →
-    of_job job list ≡ None
-no_place count zero list same e = refl
-no_place count (suc k) list same e = grind (arith, ltb-false, cond_none, slice_get_past)
+place_is count job place e = grind (arith, none-some, cond_some, ltb-true)
 
 -- ---- sums over jobs
 
@@ -76,21 +64,21 @@ sum_to_shift (suc n) f = omega (arith, sum_to_shift n f)
 
 -- what is so of each job, with its task and its slot
 abbrev pub AtEach : List Task → List SlotState → (ℕ → Task → SlotState → Type 0) → Type 0
-AtEach tasks slots P = (place : ℕ) (task : Task) (slot : SlotState) → slice_get tasks place ≡ Some task →
-    slice_get slots place ≡ Some slot → P place task slot
+AtEach tasks slots P =
+    (place : ℕ) (task : Task) (slot : SlotState) → slice_get tasks place ≡ Some task → slice_get slots place ≡ Some slot
+    → P place task slot
 
 -- a sum by the jobs' numbers is that by their standings
 pub sum_is : (number : Task → Standing → ℕ) (tasks : List Task) (slots : List SlotState) (f : ℕ → ℕ) →
-    length slots ≡ length tasks →
-    AtEach tasks slots (λ place task slot. f (suc place) ≡ number task (standing_of slot)) →
-    sum_to (length tasks) f ≡ sum_over number tasks (standings_of slots)
+    length slots ≡ length tasks → AtEach tasks slots (λ place task slot. f (suc place) ≡ number task (standing_of slot))
+    → sum_to (length tasks) f ≡ sum_over number tasks (standings_of slots)
 sum_is number [] slots f same each = refl
 sum_is number (t ∷ ts) [] f same each = absurd (omega (arith, same))
 sum_is number (t ∷ ts) (s ∷ ss) f same each =
     let shift = sum_to_shift (length ts) f in
     let here = each 0 t s refl refl in
-    let rest =
-    sum_is number ts ss (λ k. f (suc k)) (omega (arith, same)) (λ place task slot. each (suc place) task slot) in
+    let rest = sum_is number ts ss (λ k. f (suc k)) (omega (arith, same))
+    (λ place task slot. each (suc place) task slot) in
     omega (arith, shift, here, rest)
 
 -- a sum by the jobs' numbers is at most that of their cells
@@ -102,40 +90,34 @@ sum_within (t ∷ ts) [] f same each = absurd (omega (arith, same))
 sum_within (t ∷ ts) (s ∷ ss) f same each =
     let shift = sum_to_shift (length ts) f in
     let here = each 0 t s refl refl in
-    let rest =
-    sum_within ts ss (λ k. f (suc k)) (omega (arith, same)) (λ place task slot. each (suc place) task slot) in
+    let rest = sum_within ts ss (λ k. f (suc k)) (omega (arith, same)) (λ place task slot. each (suc place) task slot)
+    in
     omega (arith, shift, here, rest, sum_by-cons (λ (task : Task). task.limits.cells) t ts)
 
 granted_by : (task : Task) (s : Status) (n : ℕ) → words_of (grant_by task s) ≡ reserved_words task (standing_by s n)
-granted_by task status.Waiting n = refl
-granted_by task status.Live n = refl
-granted_by task status.InFlight n = refl
-granted_by task status.Ended n = refl
-granted_by task status.Collected n = refl
+granted_by task s n = grind arith
 
 -- the grants are those of the standings
 granted_each : (grants : List (Option ℕ)) (tasks : List Task) (slots : List SlotState) → length grants ≡ length tasks →
-    length slots ≡ length tasks →
-    AtEach tasks slots (λ place task slot. get_or grants place None ≡ grant_by task slot.status) →
-    sum_by words_of grants ≡ granted_words tasks (standings_of slots)
+    length slots ≡ length tasks → AtEach tasks slots (λ place task slot. get_or grants place None ≡ grant_by task
+    slot.status) → sum_by words_of grants ≡ granted_words tasks (standings_of slots)
 granted_each [] [] slots jobs same each = refl
 granted_each [] (t ∷ ts) slots jobs same each = absurd (omega (arith, jobs))
 granted_each (g ∷ gs) [] slots jobs same each = absurd (omega (arith, jobs))
 granted_each (g ∷ gs) (t ∷ ts) [] jobs same each = absurd (omega (arith, same))
 granted_each (g ∷ gs) (t ∷ ts) (s ∷ ss) jobs same each =
     let grant : g ≡ grant_by t s.status = each 0 t s refl refl in
-    let here : words_of g ≡ reserved_words t (standing_of s) = ap words_of grant
-    ∙ granted_by t s.status s.trace.executed in
-    let rest =
-    granted_each gs ts ss (omega (arith, jobs)) (omega (arith, same)) (λ place task slot. each (suc place) task slot) in
+    let here : words_of g ≡ reserved_words t (standing_of s) = ap words_of grant ∙ granted_by t s.status
+    s.trace.executed in
+    let rest = granted_each gs ts ss (omega (arith, jobs)) (omega (arith, same))
+    (λ place task slot. each (suc place) task slot) in
     omega (arith, here, rest, sum_by-cons words_of g gs)
 
 pub granted_is : {passes : List ℕ} (blocks : JobBlocks) (tasks : List Task) (slots : List SlotState) →
     IsSound blocks tasks slots passes → jobs.granted_words blocks ≡ granted_words tasks (standings_of slots)
 granted_is blocks tasks slots sound =
     granted_each blocks.grants tasks slots sound.jobs sound.slots_are
-    (λ place task slot t s.
-    let at : suc place - 1 ≡ place = omega arith in
+    (λ place task slot t s. let at : suc place - 1 ≡ place = omega arith in
     subst (λ (k : ℕ). get_or blocks.grants k None ≡ grant_by task slot.status) at
     (sound.each place task slot t s).grant)
 
@@ -144,17 +126,14 @@ granted_is blocks tasks slots sound =
 abbrev counts : Slot → ℕ
 counts slot = cond (nat_lt 0 slot.count) 1 0
 
-blocks_are_sum : (slots : List Slot) → blocks_in slots ≡ sum_by counts slots
-blocks_are_sum slots = refl
-
 -- the blocks of all jobs are as many more as the job's own
 pub counted_with : (job : ℕ) (old new : JobBlocks) → ChangesOnlyOf job old new →
     block_count new.memory + blocks_in (own_slots job old) ≡ block_count old.memory + blocks_in (own_slots job new)
-counted_with job old new changes = grind (arith, blocks_are_sum)
+counted_with job old new changes = grind arith
 
-pub sound_with : {passes : List ℕ} → OthersAreShown → (old new : JobBlocks) (tasks : List Task)
-    (slots : List SlotState) (place : ℕ) (task : Task) (slot : SlotState) → IsSound old tasks slots passes →
-    slice_get tasks place ≡ Some task → ChangesOnlyOf (suc place) old new → Shows (suc place) new task slot →
+pub sound_with : {passes : List ℕ} → OthersAreShown → (old new : JobBlocks) (tasks : List Task) (slots : List SlotState)
+    (place : ℕ) (task : Task) (slot : SlotState) → IsSound old tasks slots passes → slice_get tasks place ≡ Some task →
+    ChangesOnlyOf (suc place) old new → Shows (suc place) new task slot →
     IsSound new tasks (set slots place slot) passes
 sound_with others old new tasks slots place task slot sound at changes shows =
     let within : suc place ≤ length tasks = omega (arith, slice_get_within tasks place task at) in
@@ -203,21 +182,7 @@ sound_with others old new tasks slots place task slot sound at changes shows =
 -- other passes
 pub sound_passes : (blocks : JobBlocks) (tasks : List Task) (slots : List SlotState) (old new : List ℕ) →
     IsSound blocks tasks slots old → length new ≡ length old → AreFew new → IsSound blocks tasks slots new
-sound_passes blocks tasks slots old new sound same now_few =
-    record {
-      jobs = sound.jobs;
-      slots_are = sound.slots_are;
-      passes_are = same ∙ sound.passes_are;
-      few_passes = now_few;
-      few = sound.few;
-      least = sound.least;
-      most = sound.most;
-      fitting = sound.fitting;
-      each = sound.each;
-      numbers = sound.numbers;
-      counted = sound.counted;
-      used = sound.used;
-    }
+sound_passes blocks tasks slots old new sound same now_few = grind arith
 
 -- ---- the standings after an event
 
@@ -228,39 +193,32 @@ standing_at slots place slot at = slice_get-map standing_of slots place ∙ ap (
 abbrev pub queue_by : List SlotState → List ℕ → Queue
 queue_by slots passes = record { standings = standings_of slots; passes = passes }
 
-after_at : (region : ℕ) (tasks : List Task) (event : Event) (queue : Queue) (place : ℕ) (task : Task)
+pub after_at : (region : ℕ) (tasks : List Task) (event : Event) (queue : Queue) (place : ℕ) (task : Task)
     (old : Standing) → ChangesItsJob region tasks event queue (suc place) task old →
     slice_get queue.standings place ≡ Some old → (o : Option Standing) → next_standing event task old ≡ o →
     set queue.standings place (or_same old o) ≡ (after_event region tasks event queue).standings
-after_at region tasks event queue place task old changes at None e =
-    set_back queue.standings place old at ∙ ap (λ (q : Queue). q.standings) (sym (changes.passed e))
-after_at region tasks event queue place task old changes at (Some new) e =
-    ap (λ (q : Queue). q.standings) (sym (changes.changed new e))
+after_at region tasks event queue place task old changes at o e = grind (arith, set_back)
 
 -- a slot in the standing after an event, among the others
 pub stands_after : EventsChangeTheirJob → (region : ℕ) (tasks : List Task) (event : Event) (slots : List SlotState)
     (passes : List ℕ) (place : ℕ) (task : Task) (old new : SlotState) →
     job_of region tasks event (queue_by slots passes) ≡ Some (suc place) → slice_get tasks place ≡ Some task →
-    slice_get slots place ≡ Some old →
-    standing_of new ≡ or_same (standing_of old) (next_standing event task (standing_of old)) →
-    standings_of (set slots place new) ≡ (after_event region tasks event (queue_by slots passes)).standings
+    slice_get slots place ≡ Some old → standing_of new ≡ or_same (standing_of old)
+    (next_standing event task (standing_of old)) → standings_of (set slots place new) ≡
+    (after_event region tasks event (queue_by slots passes)).standings
 stands_after laws region tasks event slots passes place task old new job_is at slot_at stands =
     let here = standing_at slots place old slot_at in
     let changes = laws region tasks event (queue_by slots passes) (suc place) task (standing_of old) job_is at here in
-    map-set standing_of slots place new
-    ∙ ap (λ (s : Standing). set (standings_of slots) place s) stands
-    ∙ after_at region tasks event (queue_by slots passes) place task (standing_of old) changes here
+    map-set standing_of slots place new ∙ ap (λ (s : Standing). set (standings_of slots) place s) stands ∙ after_at
+    region tasks event (queue_by slots passes) place task (standing_of old) changes here
     (next_standing event task (standing_of old)) refl
 
 -- the queue after an event other than an admission
-queue_at : EventsChangeTheirJob → OthersPassNobody → (region : ℕ) (tasks : List Task) (event : Event) (queue : Queue)
-    (place : ℕ) (task : Task) (old : Standing) → (event ≡ Admit → ⊥) →
+pub queue_at : EventsChangeTheirJob → OthersPassNobody → (region : ℕ) (tasks : List Task) (event : Event)
+    (queue : Queue) (place : ℕ) (task : Task) (old : Standing) → (event ≡ Admit → ⊥) →
     job_of region tasks event queue ≡ Some (suc place) → slice_get tasks place ≡ Some task →
     slice_get queue.standings place ≡ Some old →
-    record {
-      standings = set queue.standings place (or_same old (next_standing event task old));
-      passes = queue.passes;
-    }
+    record { standings = set queue.standings place (or_same old (next_standing event task old)); passes = queue.passes }
     ≡ after_event region tasks event queue
 queue_at laws pass region tasks event queue place task old other job_is at here =
     let changes = laws region tasks event queue (suc place) task old job_is at here in
@@ -269,12 +227,11 @@ queue_at laws pass region tasks event queue place task old other job_is at here 
     λ i. record { standings = standings i; passes = sym passes i }
 
 -- a slot in the standing after a begin of its job and a finish after it, among the others
-pub stands_after_step : EventsChangeTheirJob → OthersPassNobody → (region : ℕ) (tasks : List Task)
-    (slots : List SlotState) (passes : List ℕ) (place : ℕ) (task : Task) (old new : SlotState) →
-    slice_get tasks place ≡ Some task → slice_get slots place ≡ Some old →
+pub stands_after_step : EventsChangeTheirJob → OthersPassNobody →
+    (region : ℕ) (tasks : List Task) (slots : List SlotState) (passes : List ℕ) (place : ℕ) (task : Task)
+    (old new : SlotState) → slice_get tasks place ≡ Some task → slice_get slots place ≡ Some old →
     standing_of new ≡ standing_after_step (suc place) task (standing_of old) →
-    queue_by (set slots place new) passes
-    ≡ after_event region tasks (Finish (suc place))
+    queue_by (set slots place new) passes ≡ after_event region tasks (Finish (suc place))
     (after_event region tasks (Begin (suc place)) (queue_by slots passes))
 stands_after_step laws pass region tasks slots passes place task old new at slot_at stands =
     let queue : Queue = queue_by slots passes in
@@ -282,27 +239,20 @@ stands_after_step laws pass region tasks slots passes place task old new at slot
     let between : Queue = record { standings = set queue.standings place begun; passes = passes } in
     let last = or_same begun (next_standing (Finish (suc place)) task begun) in
     let here = standing_at slots place old slot_at in
-    let there : slice_get between.standings place ≡ Some begun =
-    get-set_same queue.standings place (standing_of old) begun here in
-    let standings : standings_of (set slots place new) ≡ set between.standings place last =
-    map-set standing_of slots place new
-    ∙ ap (λ (s : Standing). set queue.standings place s) stands
-    ∙ sym (set-set queue.standings place begun last) in
-    (λ i. record { standings = standings i; passes = passes })
-    ∙ queue_at laws pass region tasks (Finish (suc place)) between place task begun (λ e. cc) refl at there
-    ∙ ap (after_event region tasks (Finish (suc place)))
+    let there : slice_get between.standings place ≡ Some begun = get-set_same queue.standings place (standing_of old)
+    begun here in
+    let standings : standings_of (set slots place new) ≡ set between.standings place last = map-set standing_of slots
+    place new ∙ ap (λ (s : Standing). set queue.standings place s) stands ∙ sym
+    (set-set queue.standings place begun last) in
+    (λ i. record { standings = standings i; passes = passes }) ∙ queue_at laws pass region tasks (Finish (suc place))
+    between place task begun (λ e. cc) refl at there ∙ ap (after_event region tasks (Finish (suc place)))
     (queue_at laws pass region tasks (Begin (suc place)) queue place task (standing_of old) (λ e. cc) refl at here)
-
--- a slot in the same standing, among the others
-pub stands_still : (slots : List SlotState) (place : ℕ) (old new : SlotState) → slice_get slots place ≡ Some old →
-    standing_of new ≡ standing_of old → standings_of (set slots place new) ≡ standings_of slots
-stands_still slots place old new slot_at stands = grind (arith, map-set, set_back, standing_at)
 
 -- an event of a job that there isn't changes nothing
 pub missing_after : MissingAreClosed → ClosedChangeNothing → (region : ℕ) (tasks : List Task) (event : Event)
     (slots : List SlotState) (passes : List ℕ) (job : ℕ) → named_job event ≡ Some job →
-    of_job job (standings_of slots) ≡ None →
-    after_event region tasks event (queue_by slots passes) ≡ queue_by slots passes
+    of_job job (standings_of slots) ≡ None → after_event region tasks event (queue_by slots passes) ≡ queue_by slots
+    passes
 missing_after missing closed region tasks event slots passes job named none =
     closed region tasks event (queue_by slots passes)
     (missing region tasks event (queue_by slots passes) job named none)

@@ -1,18 +1,16 @@
 -- Steps of a job in one go, among a machine's jobs.
-use Rattle.std.proofs.Common.{◌≡◌, ℕ, zero, suc, ◌+◌, true, List, [], ◌∷◌, length}
-use Rattle.std.proofs.Common.{All, Option, Some, None, is_some, refl, sym, ◌∙◌, ap, subst, arith}
+use Rattle.std.proofs.Common.{◌≡◌, ℕ, zero, suc, true, List, [], ◌∷◌, length, All, Option, Some, None, is_some, refl}
+use Rattle.std.proofs.Common.{sym, ◌∙◌, ap, subst, arith}
 use Rattle.std.proofs.lemmas.Bool.{false≢true}
 use Rattle.std.proofs.lemmas.Option.{none-some}
 use Rattle.job_steps.specs.declared.event.Event.{Event}
 use Rattle.job_steps.specs.declared.event.Event.TheVariants.{Begin, Finish}
 use Rattle.job_steps.specs.EventLaws.{EventsKeep, EventsUseUp, LeadsJoin, IsVerified, AreKept}
-use Rattle.job_steps.specs.Events.{next_standing, job_of, next_standing_in, is_open, with_next}
-use Rattle.job_steps.specs.Events.{after_event, recalled_standing, recalled_standings, standing_after}
-use Rattle.job_steps.specs.Standings.{Standing, Waiting, Live, InFlight, Ended, Collected, Queue, of_job}
-use Rattle.job_steps.specs.Standings.{with_standing}
-use Rattle.job_steps.specs.Runs.{state_after}
+use Rattle.job_steps.specs.Events.{next_standing, job_of, next_standing_in, is_open, after_event, recalled_standing}
+use Rattle.job_steps.specs.Events.{recalled_standings, standing_after}
+use Rattle.job_steps.specs.Standings.{Standing, Live, InFlight, Queue, of_job, with_standing}
 use Rattle.job_steps.specs.States.{Task}
-use Rattle.job_steps.specs.Steps.{Progress, Running, Over, Stuck}
+use Rattle.job_steps.specs.Steps.{Progress}
 use Rattle.job_steps.specs.Tickets.{Asked}
 use Rattle.job_slots.specs.declared.answer.Finished.{Finished}
 use Rattle.job_slots.specs.declared.answer.Finished.TheVariants as finished
@@ -27,30 +25,19 @@ use Rattle.job_machine.proofs.Turns.{Runs, runs_first}
 -- ---- a finish
 
 pub finished_by : {T : Type 0} (task : Task) (filled : Asked) (answer : Finished) (old next : T) →
-    question_at task filled.step ≡ Some filled.question →
-    FinishesIn filled (Some task) (Some (InFlight filled.step)) answer → after_finished answer old next ≡ next
-finished_by task filled finished.Done old next question answer = refl
-finished_by task filled finished.Ended old next question answer = refl
-finished_by task filled finished.Stale old next question answer =
-    absurd (answer (record { flying = refl; question = question }))
+    question_at task filled.step ≡ Some filled.question → FinishesIn filled (Some task) (Some (InFlight filled.step))
+    answer → after_finished answer old next ≡ next
+finished_by task filled answer old next question h6 = grind arith
 
 -- ---- the standings after an event
 
-with_back : (event : Event) (job : ℕ) (queue : Queue) (old : Standing) (next : Option Standing) →
-    of_job job queue.standings ≡ Some old →
-    (with_next event (Some job) next queue).standings ≡ with_standing job (or_same old next) queue.standings
-with_back event job queue old (Some new) is = refl
-with_back event zero queue old None is = absurd (none-some old is)
-with_back event (suc i) queue old None is = sym (set_back queue.standings i old is)
-
 -- an event leaves its job in its next standing, or as it was
-after_by : (region : ℕ) (tasks : List Task) (event : Event) (queue : Queue) (job : ℕ) (task : Task)
-    (old : Standing) → job_of region tasks event queue ≡ Some job → of_job job tasks ≡ Some task →
-    of_job job queue.standings ≡ Some old →
-    (after_event region tasks event queue).standings
-    ≡ with_standing job (or_same old (next_standing event task old)) queue.standings
+after_by : (region : ℕ) (tasks : List Task) (event : Event) (queue : Queue) (job : ℕ) (task : Task) (old : Standing) →
+    job_of region tasks event queue ≡ Some job → of_job job tasks ≡ Some task → of_job job queue.standings ≡ Some old →
+    (after_event region tasks event queue).standings ≡ with_standing job (or_same old (next_standing event task old))
+    queue.standings
 unfolding after_event
-after_by region tasks event queue job task old job_is task_is old_is = grind (arith, with_back)
+after_by region tasks event queue job task old job_is task_is old_is = grind (arith, none-some, set_back)
 
 -- at its next standing, if the event is open
 pub after_open : (region : ℕ) (tasks : List Task) (event : Event) (queue : Queue) (job : ℕ) (task : Task)
@@ -58,23 +45,23 @@ pub after_open : (region : ℕ) (tasks : List Task) (event : Event) (queue : Que
     of_job job queue.standings ≡ Some old → next_standing event task old ≡ Some new →
     (after_event region tasks event queue).standings ≡ with_standing job new queue.standings
 after_open region tasks event queue job task old new job_is task_is old_is next =
-    after_by region tasks event queue job task old job_is task_is old_is
-    ∙ ap (λ (s : Option Standing). with_standing job (or_same old s) queue.standings) next
+    after_by region tasks event queue job task old job_is task_is old_is ∙ ap
+    (λ (s : Option Standing). with_standing job (or_same old s) queue.standings) next
 
 -- a begin and then a finish leave their job as a step does
 pub after_both : (m : MachineState) (job : ℕ) (task : Task) (old : Standing) → of_job job m.tasks ≡ Some task →
-    of_job job m.standings ≡ Some old →
-    (after_step job m).standings ≡ with_standing job (standing_after_step job task old) m.standings
+    of_job job m.standings ≡ Some old → (after_step job m).standings ≡ with_standing job
+    (standing_after_step job task old) m.standings
 after_both m job task old task_is old_is =
     let begun = or_same old (next_standing (Begin job) task old) in
     let between = after_event m.region m.tasks (Begin job) (queue_of m) in
-    let first : between.standings ≡ with_standing job begun m.standings =
-    after_by m.region m.tasks (Begin job) (queue_of m) job task old refl task_is old_is in
-    let there : of_job job between.standings ≡ Some begun =
-    ap (of_job job) first ∙ of_with job m.standings old begun old_is in
-    after_by m.region m.tasks (Finish job) between job task begun refl task_is there
-    ∙ ap (with_standing job (standing_after_step job task old)) first
-    ∙ with_twice job m.standings begun (standing_after_step job task old)
+    let first : between.standings ≡ with_standing job begun m.standings = after_by m.region m.tasks (Begin job)
+    (queue_of m) job task old refl task_is old_is in
+    let there : of_job job between.standings ≡ Some begun = ap (of_job job) first ∙ of_with job m.standings old begun
+    old_is in
+    after_by m.region m.tasks (Finish job) between job task begun refl task_is there ∙ ap
+    (with_standing job (standing_after_step job task old)) first ∙ with_twice job m.standings begun
+    (standing_after_step job task old)
 
 -- ---- a step
 
@@ -86,11 +73,7 @@ record IsLiveAt (m : MachineState) (job : ℕ) : Type 0 where
   live_is : of_job job m.standings ≡ Some (Live step)
 
 lives : (s : Standing) → is_live s ≡ true → (n : ℕ) × (s ≡ Live n)
-lives Waiting e = absurd (false≢true e)
-lives (Live n) e = (n, refl)
-lives (InFlight n) e = absurd (false≢true e)
-lives Ended e = absurd (false≢true e)
-lives Collected e = absurd (false≢true e)
+lives s e = grind (arith, false≢true)
 
 live_at : (m : MachineState) (job : ℕ) → length m.standings ≡ length m.tasks → (s : Option Standing) →
     of_job job m.standings ≡ s → is_running s ≡ true → IsLiveAt m job
@@ -98,33 +81,20 @@ live_at m job same None s_is live = absurd (false≢true live)
 live_at m job same (Some s) s_is live =
     let task = beside m same job s s_is in
     let n = lives s live in
-    record {
-      task = task.0;
-      step = n.0;
-      task_is = task.1;
-      live_is = s_is ∙ ap (λ (k : Standing). Some k) n.1;
-    }
+    record { task = task.0; step = n.0; task_is = task.1; live_is = s_is ∙ ap (λ (k : Standing). Some k) n.1 }
 
 open_first : (m : MachineState) (job : ℕ) (task : Task) (n : ℕ) → of_job job m.tasks ≡ Some task →
     of_job job m.standings ≡ Some (Live n) → is_open m.region m.tasks (Begin job) (queue_of m) ≡ true
 unfolding is_open
-open_first m job task n task_is live_is =
-    λ i. is_some (next_standing_in (Begin job) (task_is i) (live_is i))
+open_first m job task n task_is live_is = λ i. is_some (next_standing_in (Begin job) (task_is i) (live_is i))
 
 -- after a finish no step of the job has begun
 landed : (n : ℕ) (p : Progress) → recalled_standing (standing_after n p) ≡ standing_after n p
-landed n (Running s) = refl
-landed n (Over ending executed peak) = refl
-landed n Stuck = refl
+landed n p = grind arith
 
-idle_after : (job : ℕ) (task : Task) (begun : Standing) →
-    recalled_standing (or_same begun (next_standing (Finish job) task begun))
-    ≡ or_same begun (next_standing (Finish job) task begun)
-idle_after job task Waiting = refl
-idle_after job task (Live n) = refl
-idle_after job task (InFlight n) = landed (n + 1) (state_after task (n + 1))
-idle_after job task Ended = refl
-idle_after job task Collected = refl
+idle_after : (job : ℕ) (task : Task) (begun : Standing) → recalled_standing
+    (or_same begun (next_standing (Finish job) task begun)) ≡ or_same begun (next_standing (Finish job) task begun)
+idle_after job task begun = grind (arith, landed)
 
 -- a step of a job leaves fewer events
 stepped : EventsUseUp → EventsKeep → LeadsJoin → (m new : MachineState) (job : ℕ) → All IsVerified m.tasks →
@@ -159,21 +129,16 @@ stepped use_up keep join m new job verified kept none h runs =
 
 -- ---- steps
 
-pub all_run : EventsUseUp → EventsKeep → LeadsJoin → (count job : ℕ) (m new : MachineState) →
-    All IsVerified m.tasks → AreKept m.region m.tasks (queue_of m) → HasNoStep m → StepsLeadIn count job m new →
-    Runs job m new
-all_run use_up keep join zero job m new verified kept none lead =
-    subst (Runs job m) (sym lead) (runs_first job m none)
+pub all_run : EventsUseUp → EventsKeep → LeadsJoin → (count job : ℕ) (m new : MachineState) → All IsVerified m.tasks →
+    AreKept m.region m.tasks (queue_of m) → HasNoStep m → StepsLeadIn count job m new → Runs job m new
+all_run use_up keep join zero job m new verified kept none lead = subst (Runs job m) (sym lead) (runs_first job m none)
 all_run use_up keep join (suc count) job m new verified kept none lead =
     let h = live_at m job kept.same_length (of_job job m.standings) refl lead.0 in
-    let is : (after_step job m).standings
-    ≡ with_standing job (standing_after_step job h.task (Live h.step)) m.standings =
-    after_both m job h.task (Live h.step) h.task_is h.live_is in
-    let none_then : HasNoStep (after_step job m) =
-    subst (λ (ss : List Standing). recalled_standings ss ≡ ss) (sym is)
+    let is : (after_step job m).standings ≡ with_standing job (standing_after_step job h.task (Live h.step)) m.standings
+    = after_both m job h.task (Live h.step) h.task_is h.live_is in
+    let none_then : HasNoStep (after_step job m) = subst (λ (ss : List Standing). recalled_standings ss ≡ ss) (sym is)
     (no_step_with job m.standings (standing_after_step job h.task (Live h.step)) none
     (idle_after job h.task (or_same (Live h.step) (next_standing (Begin job) h.task (Live h.step))))) in
-    let kept_then =
-    keep m.region m.tasks verified (Begin job ∷ Finish job ∷ []) (queue_of m) kept in
+    let kept_then = keep m.region m.tasks verified (Begin job ∷ Finish job ∷ []) (queue_of m) kept in
     stepped use_up keep join m new job verified kept none h
     (all_run use_up keep join count job (after_step job m) new verified kept_then none_then lead.1)

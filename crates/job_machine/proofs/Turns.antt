@@ -1,22 +1,20 @@
 -- Jobs that are run to their ends one after another.
-use Rattle.std.proofs.Common.{◌≡◌, ◌⊎◌, ℕ, suc, ◌<◌, ◌≤◌, false, List, [], length}
-use Rattle.std.proofs.Common.{slice_get, All, Option, Some, None, refl, sym, ◌∙◌, subst, arith, inl, inr}
+use Rattle.std.proofs.Common.{◌≡◌, ◌⊎◌, ℕ, suc, ◌<◌, ◌≤◌, false, List, [], length, slice_get, All, Option, Some, None}
+use Rattle.std.proofs.Common.{refl, sym, ◌∙◌, subst, arith, inl, inr}
 use Rattle.std.proofs.lemmas.Bool.{cases_eq}
 use Rattle.std.proofs.lemmas.Option.{none-some, same_Some, slice_get-get_or}
 use Rattle.job_steps.specs.declared.event.Event.TheVariants.{Admit, Collect}
 use Rattle.job_steps.specs.EventLaws.{EventsGoOn, EventsKeep, EventsUseUp, LeadsJoin, AdmittedHaveRoom, IsVerified}
 use Rattle.job_steps.specs.EventLaws.{AreKept}
-use Rattle.job_steps.specs.Events.{next_standing, next_standing_in, recalled_standing}
-use Rattle.job_steps.specs.Events.{all_events_left}
-use Rattle.job_steps.specs.Standings.{Standing, Waiting, Live, InFlight, Ended, Collected, of_job, admission}
+use Rattle.job_steps.specs.Events.{next_standing, next_standing_in, recalled_standing, all_events_left}
+use Rattle.job_steps.specs.Standings.{Standing, Waiting, Live, Collected, of_job, admission}
 use Rattle.job_steps.specs.States.{Task}
 use Rattle.job_machine.specs.declared.machine.Admission.TheVariants.{Admitted}
 use Rattle.job_machine.specs.Machines.{MachineState, queue_of, machine_after, Leads, HasNoStep, GoesOn}
 use Rattle.job_machine.specs.Machines.{IsWaitingOrCollected, IsDone, admission_in, is_running}
 use Rattle.job_machine.proofs.RunningOut.{Opens, Happens, Passed, Opened, happens, leads_on, goes_on_on, all_kept}
 use Rattle.job_machine.proofs.RunningOut.{no_step_after, fewer_after, collects, done_after, admitted, idle_at}
-use Rattle.job_machine.proofs.RunningOut.{leads_one}
-use Rattle.job_machine.proofs.RunningOut.{others_by, all_collected, after_none, not_admitted}
+use Rattle.job_machine.proofs.RunningOut.{leads_one, others_by, all_collected, after_none, not_admitted}
 
 abbrev pub left_in : MachineState → ℕ
 left_in m = all_events_left m.tasks m.standings
@@ -52,8 +50,7 @@ kept_between keep job old between verified kept r =
 
 pub runs_out : LeadsJoin → EventsKeep → EventsUseUp → (job : ℕ) (old between new : MachineState) →
     All IsVerified old.tasks → AreKept old.region old.tasks (queue_of old) → Runs job old between →
-    is_running (of_job job between.standings) ≡ false → new ≡ machine_after (Collect job) between →
-    RunsOut job old new
+    is_running (of_job job between.standings) ≡ false → new ≡ machine_after (Collect job) between → RunsOut job old new
 runs_out join keep use_up job old between new verified kept r idle new_is =
     let now = kept_between keep job old between verified kept r in
     let here = happens between.region between.tasks (Collect job) (queue_of between) job refl in
@@ -139,12 +136,7 @@ opens_by room m job e (Passed after closed) =
     absurd (none-some (Live 0) (sym closed ∙ (λ i. next_standing_in Admit (r.task_is i) (r.waits i))))
 
 live_is : (task : Task) (old new : Standing) → next_standing Admit task old ≡ Some new → recalled_standing new ≡ new
-live_is task Waiting new e =
-    subst (λ (s : Standing). recalled_standing s ≡ s) (same_Some (Live 0) new e) refl
-live_is task (Live n) new e = absurd (none-some new e)
-live_is task (InFlight n) new e = absurd (none-some new e)
-live_is task Ended new e = absurd (none-some new e)
-live_is task Collected new e = absurd (none-some new e)
+live_is task old new e = grind (arith, same_Some, none-some)
 
 -- what an admission does
 pub record Admits (job : ℕ) (old new : MachineState) : Type 0 where
@@ -179,8 +171,7 @@ pub admits : AdmittedHaveRoom → EventsKeep → EventsUseUp → (job : ℕ) (ol
 admits room keep use_up job old between new verified kept r answer new_is =
     let now = kept_on keep old between verified kept r.leads in
     let next = admitted between job answer in
-    let o = opens_by room between job next
-    (happens between.region between.tasks Admit (queue_of between) job next) in
+    let o = opens_by room between job next (happens between.region between.tasks Admit (queue_of between) job next) in
     subst (Admits job between) (sym new_is) (admits_by use_up job between now.1 now.0 r.no_step o)
 
 -- a job that is admitted, and then runs
@@ -195,8 +186,8 @@ others_done : (job : ℕ) (between held new : MachineState) → All IsWaitingOrC
 others_done job between held new idle a goes done k (inl here) =
     subst (λ (j : ℕ). IsDone (of_job j new.standings)) (sym here) done
 others_done job between held new idle a goes done k (inr apart) =
-    let same : slice_get new.standings k ≡ slice_get between.standings k =
-    goes.others (suc k) apart ∙ a.goes_on.others (suc k) apart in
+    let same : slice_get new.standings k ≡ slice_get between.standings k = goes.others (suc k) apart ∙ a.goes_on.others
+    (suc k) apart in
     subst IsDone (sym same) (done_by between.standings idle k (slice_get between.standings k) refl)
 
 pub turns : LeadsJoin → (job : ℕ) (old between held new : MachineState) → RunsIdle old between →
@@ -223,21 +214,17 @@ out_by join go_on old between fitting kept r nobody =
 
 fits_on : (old between : MachineState) → Leads old between → All (λ task. task.limits.words ≤ old.region) old.tasks →
     All (λ task. task.limits.words ≤ between.region) between.tasks
-fits_on old between leads fitting =
-    subst (λ (k : ℕ). All (λ task. task.limits.words ≤ k) between.tasks) (sym leads.0)
-    (subst (λ (ts : List Task). All (λ task. task.limits.words ≤ old.region) ts) (sym leads.1) fitting)
+fits_on old between leads fitting = grind arith
 
 pub out : LeadsJoin → EventsGoOn → EventsKeep → (old between new : MachineState) → All IsVerified old.tasks →
     AreKept old.region old.tasks (queue_of old) → All (λ task. task.limits.words ≤ old.region) old.tasks →
-    RunsIdle old between → ((job : ℕ) → admission_in between ≡ Admitted job → ⊥) →
-    new ≡ machine_after Admit between → AreOut old new
+    RunsIdle old between → ((job : ℕ) → admission_in between ≡ Admitted job → ⊥) → new ≡ machine_after Admit between →
+    AreOut old new
 out join go_on keep old between new verified kept fitting r nobody new_is =
     let now = kept_on keep old between verified kept r.leads in
-    subst (AreOut old) (sym new_is)
-    (out_by join go_on old between (fits_on old between r.leads fitting) now.0 r nobody)
+    subst (AreOut old) (sym new_is) (out_by join go_on old between (fits_on old between r.leads fitting) now.0 r nobody)
 
 -- a desk that has the words of each job still does
 pub words_on : (words : ℕ) (old between : MachineState) → Leads old between →
     All (λ task. task.limits.words ≤ words) old.tasks → All (λ task. task.limits.words ≤ words) between.tasks
-words_on words old between leads fits =
-    subst (λ (ts : List Task). All (λ task. task.limits.words ≤ words) ts) (sym leads.1) fits
+words_on words old between leads fits = grind arith

@@ -1,6 +1,6 @@
 -- A workbench that fits a machine, and events of its jobs.
-use Rattle.std.proofs.Common.{◌≡◌, ◌⊎◌, ℕ, zero, suc, ◌+◌, false, List, [], ◌∷◌, length, set}
-use Rattle.std.proofs.Common.{slice_get, Option, Some, None, refl, sym, ◌∙◌, ap, subst, arith, inl, inr, length-set}
+use Rattle.std.proofs.Common.{◌≡◌, ◌⊎◌, ℕ, zero, suc, ◌+◌, false, List, [], ◌∷◌, length, set, slice_get, Option, Some}
+use Rattle.std.proofs.Common.{None, refl, sym, ◌∙◌, ap, subst, arith, inl, inr, length-set}
 use Rattle.std.proofs.lemmas.Bool.{false≢true, cases_eq}
 use Rattle.std.proofs.lemmas.List.{set-set}
 use Rattle.std.proofs.lemmas.Option.{none-some, same_Some}
@@ -9,9 +9,9 @@ use Rattle.job_steps.specs.declared.event.Event.TheVariants.{Admit, Begin, Finis
 use Rattle.job_steps.specs.EventLaws.{OthersStay}
 use Rattle.job_steps.specs.Events.{next_standing, job_of, next_standing_in, standing_after}
 use Rattle.job_steps.specs.Runs.{state_after}
-use Rattle.job_steps.specs.Standings.{Standing, Waiting, Live, InFlight, Ended, Collected, Queue, of_job}
+use Rattle.job_steps.specs.Standings.{Standing, Live, InFlight, Ended, Queue, of_job}
 use Rattle.job_steps.specs.States.{Task}
-use Rattle.job_steps.specs.Steps.{Progress, Running, Over, Stuck}
+use Rattle.job_steps.specs.Steps.{Progress}
 use Rattle.job_steps.specs.Tickets.{Asked}
 use Rattle.job_slots.specs.declared.answer.Begun.{Begun}
 use Rattle.job_slots.specs.declared.answer.Begun.TheVariants as begun
@@ -28,61 +28,32 @@ use Rattle.job_machine.proofs.Stepping.{after_open, finished_by}
 
 -- ---- lists of workplaces
 
-count_with : {A : Type 0} (job : ℕ) (h : Workplace A) (workbench : List (Workplace A)) →
-    length (with_workplace job h workbench) ≡ length workbench
-count_with zero h workbench = refl
-count_with (suc i) h workbench = length-set workbench i h
-
-of_with_workplace : {A : Type 0} (job : ℕ) (workbench : List (Workplace A)) (own h : Workplace A) →
-    of_job job workbench ≡ Some own →
-    of_job job (with_workplace job h workbench) ≡ Some h
-of_with_workplace zero workbench own h e = absurd (none-some own e)
-of_with_workplace (suc i) workbench own h e = get-set_same workbench i own h e
-
 other_with_workplace : {A : Type 0} (job other : ℕ) (workbench : List (Workplace A)) (h : Workplace A) →
-    (other ≡ job → ⊥) →
-    of_job other (with_workplace job h workbench) ≡ of_job other workbench
-other_with_workplace zero other workbench h ne = refl
-other_with_workplace (suc i) zero workbench h ne = refl
-other_with_workplace (suc i) (suc j) workbench h ne = get-set_other workbench i j h (λ e. ne (ap suc e))
+    (other ≡ job → ⊥) → of_job other (with_workplace job h workbench) ≡ of_job other workbench
+other_with_workplace job other workbench h ne = grind (arith, get-set_other)
 
 workplace_twice : {A : Type 0} (job : ℕ) (one other : Workplace A) (workbench : List (Workplace A)) →
     with_workplace job other (with_workplace job one workbench) ≡ with_workplace job other workbench
-workplace_twice zero one other workbench = refl
-workplace_twice (suc i) one other workbench = set-set workbench i one other
-
-workplace_back : {A : Type 0} (job : ℕ) (own : Workplace A) (workbench : List (Workplace A)) →
-    of_job job workbench ≡ Some own →
-    with_workplace job own workbench ≡ workbench
-workplace_back zero own workbench e = refl
-workplace_back (suc i) own workbench e = set_back workbench i own e
+workplace_twice job one other workbench = grind (arith, set-set)
 
 none_back : {A : Type 0} (workbench : List (Workplace A)) (i : ℕ) (h : Workplace A) → slice_get workbench i ≡ None →
     set workbench i h ≡ workbench
 none_back [] i h none = refl
-none_back (z ∷ workbench) zero h none = absurd (none-some z (sym none))
-none_back (z ∷ workbench) (suc i) h none = ap (λ zs. z ∷ zs) (none_back workbench i h none)
-
-no_workplace : {A : Type 0} (job : ℕ) (h : Workplace A) (workbench : List (Workplace A)) → of_job job workbench ≡ None →
-    with_workplace job h workbench ≡ workbench
-no_workplace zero h workbench none = refl
-no_workplace (suc i) h workbench none = none_back workbench i h none
+none_back (z ∷ workbench) i h none = grind (arith, none-some, (none_back workbench))
 
 -- ---- what is taken
 
 -- there is no such job
 pub takes_none : {A T : Type 0} (of : T → Workplace A) (job : ℕ) (old new : List (Workplace A)) (result : Option T) →
     None ≡ of_job job old → new ≡ with_workplace job workplace.Empty old → result ≡ None → Takes of job old new result
-takes_none of job old new result none new_is result_is = grind (arith, none-some, no_workplace)
+takes_none of job old new result none new_is result_is = grind (arith, none-some, none_back)
 
 -- the workplace is otherwise, and is put back
-pub takes_other : {A T : Type 0} (of : T → Workplace A)
-    (job : ℕ) (old between new : List (Workplace A)) (own : Workplace A) →
-    Some own ≡ of_job job old → between ≡ with_workplace job workplace.Empty old →
-    new ≡ with_workplace job own between →
-    ((taken : T) → own ≡ of taken → ⊥) → Takes of job old new None
+pub takes_other : {A T : Type 0} (of : T → Workplace A) (job : ℕ) (old between new : List (Workplace A))
+    (own : Workplace A) → Some own ≡ of_job job old → between ≡ with_workplace job workplace.Empty old →
+    new ≡ with_workplace job own between → ((taken : T) → own ≡ of taken → ⊥) → Takes of job old new None
 takes_other of job old between new own own_is between_is new_is otherwise =
-    grind (arith, same_Some, workplace_twice, workplace_back)
+    grind (arith, same_Some, workplace_twice, set_back)
 
 -- ---- an event of one job
 
@@ -98,29 +69,25 @@ stays_fit m new job h tasks same f = record {
 }
 
 is_apart : (region : ℕ) (tasks : List Task) (event : Event) (queue : Queue) (job other : ℕ) →
-    job_of region tasks event queue ≡ Some job → (other ≡ job → ⊥) →
-    job_of region tasks event queue ≡ Some other → ⊥
-is_apart region tasks event queue job other job_is ne other_is =
-    ne (same_Some other job (sym other_is ∙ job_is))
+    job_of region tasks event queue ≡ Some job → (other ≡ job → ⊥) → job_of region tasks event queue ≡ Some other → ⊥
+is_apart region tasks event queue job other job_is ne other_is = ne (same_Some other job (sym other_is ∙ job_is))
 
-workplace_by : {A : Type 0} (m after : MachineState) (workbench : List (Workplace A)) (job : ℕ)
-    (own new : Workplace A) →
-    WorkbenchFits m workbench → of_job job workbench ≡ Some own → after.tasks ≡ m.tasks → OthersStand job m after →
+workplace_by : {A : Type 0} (m after : MachineState) (workbench : List (Workplace A)) (job : ℕ) (own new : Workplace A)
+    → WorkbenchFits m workbench → of_job job workbench ≡ Some own → after.tasks ≡ m.tasks → OthersStand job m after →
     FitsIn after job new → (other : ℕ) → (h : Workplace A) → of_job other (with_workplace job new workbench) ≡ Some h →
     (other ≡ job) ⊎ (other ≡ job → ⊥) → FitsIn after other h
 workplace_by m after workbench job own new fit own_is tasks others f other h h_is (inl here) =
-    grind (arith, of_with_workplace, same_Some)
+    grind (arith, none-some, get-set_same, same_Some)
 workplace_by m after workbench job own new fit own_is tasks others f other h h_is (inr apart) =
     stays_fit m after other h tasks (others other apart)
     (fit.each other h (sym (other_with_workplace job other workbench new apart) ∙ h_is))
 
 -- events of a job, whose workplace changes so that it fits
 workbench_with : {A : Type 0} (m after : MachineState) (workbench : List (Workplace A)) (job : ℕ)
-    (own new : Workplace A) →
-    WorkbenchFits m workbench → of_job job workbench ≡ Some own → after.tasks ≡ m.tasks → OthersStand job m after →
-    FitsIn after job new → WorkbenchFits after (with_workplace job new workbench)
+    (own new : Workplace A) → WorkbenchFits m workbench → of_job job workbench ≡ Some own → after.tasks ≡ m.tasks →
+    OthersStand job m after → FitsIn after job new → WorkbenchFits after (with_workplace job new workbench)
 workbench_with m after workbench job own new fit own_is tasks others f =
-    grind (arith, count_with, workplace_by, cases_eq)
+    grind (arith, length-set, workplace_by, cases_eq)
 
 others_stand : (stay : OthersStay) (event : Event) (m : MachineState) (job : ℕ) →
     job_of m.region m.tasks event (queue_of m) ≡ Some job → OthersStand job m (machine_after event m)
@@ -128,10 +95,9 @@ others_stand stay event m job job_is other apart = grind (arith, is_apart)
 
 -- an event of a job, whose workplace changes so that it fits
 pub workbench_after : {A : Type 0} (stay : OthersStay) (event : Event) (m : MachineState)
-    (workbench : List (Workplace A)) (job : ℕ)
-    (own new : Workplace A) → WorkbenchFits m workbench → of_job job workbench ≡ Some own →
-    job_of m.region m.tasks event (queue_of m) ≡ Some job → FitsIn (machine_after event m) job new →
-    WorkbenchFits (machine_after event m) (with_workplace job new workbench)
+    (workbench : List (Workplace A)) (job : ℕ) (own new : Workplace A) → WorkbenchFits m workbench →
+    of_job job workbench ≡ Some own → job_of m.region m.tasks event (queue_of m) ≡ Some job →
+    FitsIn (machine_after event m) job new → WorkbenchFits (machine_after event m) (with_workplace job new workbench)
 workbench_after stay event m workbench job own new fit own_is job_is f =
     workbench_with m (machine_after event m) workbench job own new fit own_is refl
     (others_stand stay event m job job_is) f
@@ -141,8 +107,7 @@ workbench_after stay event m workbench job own new fit own_is job_is f =
 -- a closed event of a job leaves all as it was
 pub passed : (event : Event) (m : MachineState) (job : ℕ) → job_of m.region m.tasks event (queue_of m) ≡ Some job →
     next_standing_in event (of_job job m.tasks) (of_job job m.standings) ≡ None → machine_after event m ≡ m
-passed event m job job_is closed =
-    passed_by event m job closed (happens m.region m.tasks event (queue_of m) job job_is)
+passed event m job job_is closed = passed_by event m job closed (happens m.region m.tasks event (queue_of m) job job_is)
   where
     passed_by : (event : Event) (m : MachineState) (job : ℕ) →
         next_standing_in event (of_job job m.tasks) (of_job job m.standings) ≡ None →
@@ -157,12 +122,10 @@ closed_workplace : {A : Type 0} (event : Event) (m : MachineState) (job : ℕ) (
     FitsIn (machine_after event m) job h
 closed_workplace event m job h f job_is closed =
     subst (λ (k : MachineState). FitsIn k job h)
-    (sym (passed event m job job_is
-    ((λ i. next_standing_in event (f.task_is i) (f.standing_is i)) ∙ closed))) f
+    (sym (passed event m job job_is ((λ i. next_standing_in event (f.task_is i) (f.standing_is i)) ∙ closed))) f
 
 opened_workplace : {A : Type 0} (event : Event) (m : MachineState) (job : ℕ) (task : Task) (old new : Standing)
-    (h : Workplace A) →
-    job_of m.region m.tasks event (queue_of m) ≡ Some job → of_job job m.tasks ≡ Some task →
+    (h : Workplace A) → job_of m.region m.tasks event (queue_of m) ≡ Some job → of_job job m.tasks ≡ Some task →
     of_job job m.standings ≡ Some old → next_standing event task old ≡ Some new → WorkplaceFits job task new h →
     FitsIn (machine_after event m) job h
 opened_workplace event m job task old new h job_is task_is old_is next fits = record {
@@ -178,8 +141,7 @@ opened_workplace event m job task old new h job_is task_is old_is next fits = re
 -- ---- a job without a workplace
 
 missing_at : {A : Type 0} (workbench : List (Workplace A)) (tasks : List Task) → length workbench ≡ length tasks →
-    (i : ℕ) →
-    slice_get workbench i ≡ None → slice_get tasks i ≡ None
+    (i : ℕ) → slice_get workbench i ≡ None → slice_get tasks i ≡ None
 missing_at [] [] same i none = refl
 missing_at [] (t ∷ tasks) same i none = absurd (omega (arith, same))
 missing_at (h ∷ workbench) [] same i none = absurd (omega (arith, same))
@@ -188,15 +150,14 @@ missing_at (h ∷ workbench) (t ∷ tasks) same (suc i) none = missing_at workbe
 
 missing : {A : Type 0} (m : MachineState) (workbench : List (Workplace A)) → WorkbenchFits m workbench → (job : ℕ) →
     of_job job workbench ≡ None → of_job job m.tasks ≡ None
-missing m workbench fit zero none = refl
-missing m workbench fit (suc i) none = missing_at workbench m.tasks fit.count i none
+missing m workbench fit job none = grind (arith, missing_at)
 
 no_task : (event : Event) (t : Option Task) (s : Option Standing) → t ≡ None → next_standing_in event t s ≡ None
 no_task event t s none = ap (λ (k : Option Task). next_standing_in event k s) none
 
 closed_by : {A : Type 0} (event : Event) (m : MachineState) (job : ℕ) (h : Workplace A) (f : FitsIn m job h) →
-    next_standing event f.task f.standing ≡ None →
-    next_standing_in event (of_job job m.tasks) (of_job job m.standings) ≡ None
+    next_standing event f.task f.standing ≡ None → next_standing_in event (of_job job m.tasks) (of_job job m.standings)
+    ≡ None
 closed_by event m job h f closed = (λ i. next_standing_in event (f.task_is i) (f.standing_is i)) ∙ closed
 
 -- ---- what a turn of a job makes
@@ -209,11 +170,7 @@ pub record Played {A : Type 0} (event : Event) (m new : MachineState) (after : L
 turned : {A : Type 0} (event : Event) (m new : MachineState) (workbench after : List (Workplace A)) →
     new ≡ machine_after event m → WorkbenchFits (machine_after event m) workbench → after ≡ workbench →
     Played event m new after
-turned {A} event m new workbench after state fit same = record {
-  state = state;
-  fit = subst (λ (k : MachineState). WorkbenchFits k after) (sym state)
-      (subst (λ (hs : List (Workplace A)). WorkbenchFits (machine_after event m) hs) (sym same) fit);
-}
+turned {A} event m new workbench after state fit same = grind arith
 
 -- an event that isn't open, with the workbench as they were
 still : {A : Type 0} (event : Event) (m new : MachineState) (workbench after : List (Workplace A)) (job : ℕ) →
@@ -226,20 +183,15 @@ still event m new workbench after job fit job_is same closed is = grind (arith, 
 
 not_live : (job : ℕ) (task : Task) (standing : Standing) → is_live standing ≡ false →
     next_standing (Begin job) task standing ≡ None
-not_live job task Waiting e = refl
-not_live job task (Live n) e = absurd (false≢true (sym e))
-not_live job task (InFlight n) e = refl
-not_live job task Ended e = refl
-not_live job task Collected e = refl
+not_live job task standing e = grind (arith, false≢true)
 
 -- the workplace of a job after a begin
 record IsBegunBy {A : Type 0} (m : MachineState) (job : ℕ) (answer : Begun A) : Type 0 where
   state : after_begun answer m (machine_after (Begin job) m) ≡ machine_after (Begin job) m
   fits : FitsIn (machine_after (Begin job) m) job (workplace_after answer)
 
-begins : {A : Type 0} (m : MachineState) (job desk : ℕ)
-    (f : FitsIn {A = A} m job (workplace.Free desk)) (answer : Begun A) →
-    Begins job desk f.task f.standing answer → IsBegunBy m job answer
+begins : {A : Type 0} (m : MachineState) (job desk : ℕ) (f : FitsIn {A = A} m job (workplace.Free desk))
+    (answer : Begun A) → Begins job desk f.task f.standing answer → IsBegunBy m job answer
 begins m job desk f (begun.Began ticket) is = record {
   state = refl;
   fits = opened_workplace (Begin job) m job f.task f.standing (InFlight ticket.step)
@@ -270,28 +222,23 @@ begins m job desk f (begun.SmallDesk d) is =
 
 pub plays_begin : {A : Type 0} (stay : OthersStay) (m new : MachineState) (workbench between after : List (Workplace A))
     (job desk : ℕ) (answer : Begun A) → WorkbenchFits m workbench →
-    Takes workplace.Free job workbench between (Some desk) →
-    BeginsIn job desk (of_job job m.tasks) (of_job job m.standings) answer →
-    new ≡ after_begun answer m (machine_after (Begin job) m) →
-    after ≡ with_workplace job (workplace_after answer) between →
-    Played (Begin job) m new after
+    Takes workplace.Free job workbench between (Some desk) → BeginsIn job desk (of_job job m.tasks)
+    (of_job job m.standings) answer → new ≡ after_begun answer m (machine_after (Begin job) m) →
+    after ≡ with_workplace job (workplace_after answer) between → Played (Begin job) m new after
 plays_begin {A} stay m new workbench between after job desk answer fit taken answers new_is after_is =
     let f = fit.each job (workplace.Free desk) taken.0 in
-    let here : Begins job desk f.task f.standing answer =
-    subst (λ (s : Option Standing). BeginsIn job desk (Some f.task) s answer) f.standing_is
+    let here : Begins job desk f.task f.standing answer = subst
+    (λ (s : Option Standing). BeginsIn job desk (Some f.task) s answer) f.standing_is
     (subst (λ (t : Option Task). BeginsIn job desk t (of_job job m.standings) answer) f.task_is answers) in
     let b = begins m job desk f answer here in
     turned (Begin job) m new (with_workplace job (workplace_after answer) workbench) after (new_is ∙ b.state)
-    (workbench_after stay (Begin job) m workbench job (workplace.Free desk)
-    (workplace_after answer) fit taken.0 refl b.fits)
-    (after_is ∙ (ap (with_workplace job (workplace_after answer)) taken.1
-    ∙ workplace_twice job workplace.Empty (workplace_after answer) workbench))
+    (workbench_after stay (Begin job) m workbench job (workplace.Free desk) (workplace_after answer) fit taken.0 refl
+    b.fits) (after_is ∙ (ap (with_workplace job (workplace_after answer)) taken.1 ∙ workplace_twice job workplace.Empty
+    (workplace_after answer) workbench))
 
 begin_closed : {A : Type 0} (m : MachineState) (workbench : List (Workplace A)) → WorkbenchFits m workbench →
-    (job : ℕ) →
-    ((desk : ℕ) → of_job job workbench ≡ Some (workplace.Free desk) → ⊥) → (h : Option (Workplace A)) →
-    of_job job workbench ≡ h →
-    next_standing_in (Begin job) (of_job job m.tasks) (of_job job m.standings) ≡ None
+    (job : ℕ) → ((desk : ℕ) → of_job job workbench ≡ Some (workplace.Free desk) → ⊥) → (h : Option (Workplace A)) →
+    of_job job workbench ≡ h → next_standing_in (Begin job) (of_job job m.tasks) (of_job job m.standings) ≡ None
 begin_closed m workbench fit job none None is =
     no_task (Begin job) (of_job job m.tasks) (of_job job m.standings) (missing m workbench fit job is)
 begin_closed m workbench fit job none (Some (workplace.Free desk)) is = absurd (none desk is)
@@ -302,8 +249,7 @@ begin_closed m workbench fit job none (Some workplace.Empty) is = absurd (fit.ea
 
 -- no desk is there, since a step has begun or there is no such job
 pub plays_no_begin : {A : Type 0} (m : MachineState) (workbench after : List (Workplace A)) (job : ℕ) →
-    WorkbenchFits m workbench →
-    Takes workplace.Free job workbench after None → Played (Begin job) m m after
+    WorkbenchFits m workbench → Takes workplace.Free job workbench after None → Played (Begin job) m m after
 plays_no_begin m workbench after job fit taken =
     let closed = begin_closed m workbench fit job taken.0 (of_job job workbench) refl in
     still (Begin job) m m workbench after job fit refl taken.1 closed (sym (passed (Begin job) m job refl closed))
@@ -316,23 +262,14 @@ IsOfSteps event =
     (task : Task) (standing : Standing) → is_in_flight standing ≡ false → next_standing event task standing ≡ None
 
 no_finish : (job : ℕ) → IsOfSteps (Finish job)
-no_finish job task Waiting e = refl
-no_finish job task (Live n) e = refl
-no_finish job task (InFlight n) e = absurd (false≢true (sym e))
-no_finish job task Ended e = refl
-no_finish job task Collected e = refl
+no_finish job task h2 e = grind (arith, false≢true)
 
 no_recall : (job : ℕ) → IsOfSteps (Recall job)
-no_recall job task Waiting e = refl
-no_recall job task (Live n) e = refl
-no_recall job task (InFlight n) e = absurd (false≢true (sym e))
-no_recall job task Ended e = refl
-no_recall job task Collected e = refl
+no_recall job task h2 e = grind (arith, false≢true)
 
 step_closed : {A : Type 0} (event : Event) (m : MachineState) (workbench : List (Workplace A)) → IsOfSteps event →
-    WorkbenchFits m workbench → (job : ℕ) → ((filled : Asked) → of_job job workbench ≡ Some (workplace.Holds filled)
-    → ⊥) →
-    (h : Option (Workplace A)) → of_job job workbench ≡ h →
+    WorkbenchFits m workbench → (job : ℕ) → ((filled : Asked) → of_job job workbench ≡ Some (workplace.Holds filled) →
+    ⊥) → (h : Option (Workplace A)) → of_job job workbench ≡ h →
     next_standing_in event (of_job job m.tasks) (of_job job m.standings) ≡ None
 step_closed event m workbench steps fit job none None is =
     no_task event (of_job job m.tasks) (of_job job m.standings) (missing m workbench fit job is)
@@ -344,15 +281,13 @@ step_closed event m workbench steps fit job none (Some workplace.Empty) is =
     absurd (fit.each job workplace.Empty is).fits
 
 pub plays_no_finish : {A : Type 0} (m : MachineState) (workbench after : List (Workplace A)) (job : ℕ) →
-    WorkbenchFits m workbench →
-    Takes workplace.Holds job workbench after None → Played (Finish job) m m after
+    WorkbenchFits m workbench → Takes workplace.Holds job workbench after None → Played (Finish job) m m after
 plays_no_finish m workbench after job fit taken =
     let closed = step_closed (Finish job) m workbench (no_finish job) fit job taken.0 (of_job job workbench) refl in
     still (Finish job) m m workbench after job fit refl taken.1 closed (sym (passed (Finish job) m job refl closed))
 
 pub plays_no_recall : {A : Type 0} (m new : MachineState) (workbench after : List (Workplace A)) (job : ℕ) →
-    WorkbenchFits m workbench →
-    Takes workplace.Holds job workbench after None → new ≡ machine_after (Recall job) m →
+    WorkbenchFits m workbench → Takes workplace.Holds job workbench after None → new ≡ machine_after (Recall job) m →
     Played (Recall job) m new after
 plays_no_recall m new workbench after job fit taken is =
     still (Recall job) m new workbench after job fit refl taken.1
@@ -361,17 +296,14 @@ plays_no_recall m new workbench after job fit taken is =
 -- ---- a step that is finished or given up
 
 landed : (n : ℕ) (p : Progress) → is_in_flight (standing_after n p) ≡ false
-landed n (Running s) = refl
-landed n (Over ending executed peak) = refl
-landed n Stuck = refl
+landed n p = grind arith
 
 -- the step that the workplace holds is over, and its desk is free again
-freed : {A : Type 0} (stay : OthersStay) (event : Event) (m new : MachineState)
-    (workbench between after : List (Workplace A))
-    (job desk : ℕ) (filled : Asked) (late : Task → Standing) → WorkbenchFits m workbench →
+freed : {A : Type 0} (stay : OthersStay) (event : Event) (m new : MachineState) (workbench between after : List
+    (Workplace A)) (job desk : ℕ) (filled : Asked) (late : Task → Standing) → WorkbenchFits m workbench →
     Takes workplace.Holds job workbench between (Some filled) → job_of m.region m.tasks event (queue_of m) ≡ Some job →
-    ((task : Task) → next_standing event task (InFlight filled.step) ≡ Some (late task)) →
-    ((task : Task) → is_in_flight (late task) ≡ false) → desk ≡ filled.words → new ≡ machine_after event m →
+    ((task : Task) → next_standing event task (InFlight filled.step) ≡ Some (late task)) → ((task : Task) →
+    is_in_flight (late task) ≡ false) → desk ≡ filled.words → new ≡ machine_after event m →
     after ≡ with_workplace job (workplace.Free desk) between → Played event m new after
 freed {A} stay event m new workbench between after job desk filled late fit taken job_is next lands desk_is new_is
     after_is =
@@ -379,47 +311,40 @@ freed {A} stay event m new workbench between after job desk filled late fit take
     let free : Workplace A = workplace.Free desk in
     let f = fit.each job own taken.0 in
     let flying = f.standing_is ∙ ap (λ (s : Standing). Some s) f.fits.2.flying in
-    turned event m new (with_workplace job free workbench) after new_is
-    (workbench_after stay event m workbench job own free fit taken.0 job_is
-    (opened_workplace event m job f.task (InFlight filled.step) (late f.task) free job_is f.task_is flying (next f.task)
-    (desk_is ∙ f.fits.1, lands f.task)))
-    (after_is ∙ (ap (with_workplace job free) taken.1 ∙ workplace_twice job workplace.Empty free workbench))
+    turned event m new (with_workplace job free workbench) after new_is (workbench_after stay event m workbench job own
+    free fit taken.0 job_is (opened_workplace event m job f.task (InFlight filled.step) (late f.task) free job_is
+    f.task_is flying (next f.task) (desk_is ∙ f.fits.1, lands f.task))) (after_is ∙ (ap (with_workplace job free)
+    taken.1 ∙ workplace_twice job workplace.Empty free workbench))
 
 pub plays_recall : {A : Type 0} (stay : OthersStay) (m new : MachineState)
-    (workbench between after : List (Workplace A))
-    (job desk : ℕ) (filled : Asked) → WorkbenchFits m workbench →
-    Takes workplace.Holds job workbench between (Some filled) →
-    desk ≡ filled.words → new ≡ machine_after (Recall job) m →
-    after ≡ with_workplace job (workplace.Free desk) between →
+    (workbench between after : List (Workplace A)) (job desk : ℕ) (filled : Asked) → WorkbenchFits m workbench →
+    Takes workplace.Holds job workbench between (Some filled) → desk ≡ filled.words →
+    new ≡ machine_after (Recall job) m → after ≡ with_workplace job (workplace.Free desk) between →
     Played (Recall job) m new after
 plays_recall stay m new workbench between after job desk filled fit taken desk_is new_is after_is =
     freed stay (Recall job) m new workbench between after job desk filled (λ task. Live filled.step) fit taken refl
     (λ task. refl) (λ task. refl) desk_is new_is after_is
 
 finishes : {A : Type 0} (m new : MachineState) (workbench : List (Workplace A)) (job : ℕ) (filled : Asked)
-    (answer : Finished) →
-    WorkbenchFits m workbench → of_job job workbench ≡ Some (workplace.Holds filled) →
+    (answer : Finished) → WorkbenchFits m workbench → of_job job workbench ≡ Some (workplace.Holds filled) →
     FinishesIn filled (of_job filled.job m.tasks) (of_job filled.job m.standings) answer →
     new ≡ after_finished answer m (machine_after (Finish filled.job) m) → new ≡ machine_after (Finish job) m
 finishes m new workbench job filled answer fit own answers new_is =
     let f = fit.each job (workplace.Holds filled) own in
     let task_is : of_job filled.job m.tasks ≡ Some f.task = ap (λ j. of_job j m.tasks) f.fits.0 ∙ f.task_is in
-    let flying : of_job filled.job m.standings ≡ Some (InFlight filled.step) =
-    ap (λ j. of_job j m.standings) f.fits.0
-    ∙ (f.standing_is ∙ ap (λ (s : Standing). Some s) f.fits.2.flying) in
-    let here : FinishesIn filled (Some f.task) (Some (InFlight filled.step)) answer =
-    subst (λ (s : Option Standing). FinishesIn filled (Some f.task) s answer) flying
+    let flying : of_job filled.job m.standings ≡ Some (InFlight filled.step) = ap (λ j. of_job j m.standings) f.fits.0 ∙
+    (f.standing_is ∙ ap (λ (s : Standing). Some s) f.fits.2.flying) in
+    let here : FinishesIn filled (Some f.task) (Some (InFlight filled.step)) answer = subst
+    (λ (s : Option Standing). FinishesIn filled (Some f.task) s answer) flying
     (subst (λ (t : Option Task). FinishesIn filled t (of_job filled.job m.standings) answer) task_is answers) in
-    new_is
-    ∙ (finished_by f.task filled answer m (machine_after (Finish filled.job) m) f.fits.2.question here
-    ∙ ap (λ j. machine_after (Finish j) m) f.fits.0)
+    new_is ∙ (finished_by f.task filled answer m (machine_after (Finish filled.job) m) f.fits.2.question here ∙ ap
+    (λ j. machine_after (Finish j) m) f.fits.0)
 
 pub plays_finish : {A : Type 0} (stay : OthersStay) (m new : MachineState)
-    (workbench between after : List (Workplace A))
-    (job desk : ℕ) (filled : Asked) (answer : Finished) → WorkbenchFits m workbench →
-    Takes workplace.Holds job workbench between (Some filled) →
-    FinishesIn filled (of_job filled.job m.tasks) (of_job filled.job m.standings) answer →
-    desk ≡ filled.words → new ≡ after_finished answer m (machine_after (Finish filled.job) m) →
+    (workbench between after : List (Workplace A)) (job desk : ℕ) (filled : Asked) (answer : Finished) →
+    WorkbenchFits m workbench → Takes workplace.Holds job workbench between (Some filled) →
+    FinishesIn filled (of_job filled.job m.tasks) (of_job filled.job m.standings) answer → desk ≡ filled.words →
+    new ≡ after_finished answer m (machine_after (Finish filled.job) m) →
     after ≡ with_workplace job (workplace.Free desk) between → Played (Finish job) m new after
 plays_finish stay m new workbench between after job desk filled answer fit taken answers desk_is new_is after_is =
     freed stay (Finish job) m new workbench between after job desk filled
@@ -432,22 +357,14 @@ plays_finish stay m new workbench between after job desk filled answer fit taken
 -- the event moves no job whose step has begun, and begins none
 abbrev pub IsOfNoStep : Event → Type 0
 IsOfNoStep event =
-    (task : Task) (old new : Standing) → next_standing event task old ≡ Some new →
-    (is_in_flight old ≡ false) × (is_in_flight new ≡ false)
+    (task : Task) (old new : Standing) → next_standing event task old ≡ Some new → (is_in_flight old ≡ false) ×
+    (is_in_flight new ≡ false)
 
 admits_no_step : IsOfNoStep Admit
-admits_no_step task Waiting new e = (refl, ap is_in_flight (sym (same_Some (Live 0) new e)))
-admits_no_step task (Live n) new e = absurd (none-some new e)
-admits_no_step task (InFlight n) new e = absurd (none-some new e)
-admits_no_step task Ended new e = absurd (none-some new e)
-admits_no_step task Collected new e = absurd (none-some new e)
+admits_no_step task h1 new e = grind (arith, same_Some, none-some)
 
 collects_no_step : (job : ℕ) → IsOfNoStep (Collect job)
-collects_no_step job task Waiting new e = absurd (none-some new e)
-collects_no_step job task (Live n) new e = absurd (none-some new e)
-collects_no_step job task (InFlight n) new e = absurd (none-some new e)
-collects_no_step job task Ended new e = (refl, ap is_in_flight (sym (same_Some Collected new e)))
-collects_no_step job task Collected new e = absurd (none-some new e)
+collects_no_step job task h2 new e = grind (arith, none-some, same_Some)
 
 still_fits : {A : Type 0} (event : Event) (m : MachineState) (job : ℕ) (h : Workplace A) → IsOfNoStep event →
     job_of m.region m.tasks event (queue_of m) ≡ Some job → (f : FitsIn m job h) → (next : Option Standing) →

@@ -5,14 +5,10 @@ ghost use Rattle.std.specs.Prelude.{IsTrue, IfNone, Some, map, option_copied, op
 ghost use Rattle.std.specs.Arc.{arc_value};
 ghost use Rattle.vcode_base.specs.declared.limits.TheConstants.{MOST_JOBS, MOST_PASSES, MOST_WORDS};
 ghost use Rattle.job_steps.specs.declared.event.Event.TheVariants.{Admit, Begin, Finish, Recall, Collect};
-ghost use Rattle.job_memory.specs.Laws.{ChangesJoin};
-ghost use Rattle.job_steps.specs.EventLaws.{IsVerified, AreKept, EventsChangeTheirJob, MissingAreClosed};
-ghost use Rattle.job_steps.specs.EventLaws.{ClosedChangeNothing, AdmittedHaveRoom, OthersPassNobody};
-ghost use Rattle.job_steps.specs.EventLaws.{AdmissionsPassOnce, PassesAreFew};
+ghost use Rattle.job_steps.specs.EventLaws.{IsVerified, AreKept, AdmittedHaveRoom, AdmissionsPassOnce, PassesAreFew};
 ghost use Rattle.job_steps.specs.Standings.{Collected, of_job, first_queue, executed_at, peak_at};
 ghost use Rattle.job_steps.specs.Standings.{used_words, granted_words};
 ghost use Rattle.job_steps.specs.States.{ruled};
-ghost use Rattle.job_slots.specs.Laws.{OthersAreShown};
 ghost use Rattle.job_slots.specs.Answers.{after_stepped};
 ghost use Rattle.job_slots.specs.Slots.{status_of};
 ghost use Rattle.job_machine.specs.Machines.{queue_of, machine_after, Leads, admission_in, BeginsIn, after_begun};
@@ -21,6 +17,7 @@ ghost use Rattle.job_machine.specs.Machines.{outcome_in, HasReturnedIn, HasNoSte
 ghost use Rattle.job_machine.specs.Machines.{HasRunIn, StepsIn, after_step, asked_in, is_running};
 ghost use Rattle.job_machine.specs.Lanes.{CanAdopt, after_adoption};
 ghost use Rattle.job_machine.specs.SlotOf.{IsSlotIn};
+ghost use Rattle.job_machine.specs.TurnLaws.{TurnLaws};
 
 use crate::lane::{EndedJob, run_slot};
 use crate::setting::{
@@ -518,12 +515,7 @@ fn job_at<A: Allocator>(jobs: &Arc<Vec<Job<A>, A>, A>, place: usize) -> &Job<A>
 
 /// The laws by which a turn of one job leaves a machine sound, and standing as an event leaves it.
 fn turn_laws()
-    ensures others { OthersAreShown }
-    ensures joined { ChangesJoin }
-    ensures changed { EventsChangeTheirJob }
-    ensures passes { OthersPassNobody }
-    ensures missing { MissingAreClosed }
-    ensures closed { ClosedChangeNothing }
+    ensures { TurnLaws }
 {
     others_are_shown();
     changes_join();

@@ -1,13 +1,12 @@
 -- What holds of each state that a job reaches, whatever its program: counts and words within the limits, and tags.
-use Rattle.std.proofs.Common.{◌≡◌, ℕ, ◌+◌, ◌<◌, ◌≤◌, max, Bool, true, false, eqb, List, [], ◌∷◌, length}
-use Rattle.std.proofs.Common.{get_or, Option, Some, None, refl, sym, ◌∙◌, ap, subst, arith, zero, suc}
+use Rattle.std.proofs.Common.{◌≡◌, ℕ, ◌+◌, ◌<◌, ◌≤◌, max, Bool, true, false, eqb, List, [], ◌∷◌, length, get_or, Option}
+use Rattle.std.proofs.Common.{None, sym, ◌∙◌, ap, subst, arith, zero, suc}
 use Rattle.std.specs.Prelude.{All}
 use Rattle.std.proofs.Math.Nat.{max-le, le-max_right}
 use Rattle.std.proofs.lemmas.Bool.Decides.{nat_tests}
 use Rattle.std.proofs.lemmas.List.Elements.{All-nil, All-cons, All-weaker}
 use Rattle.vcode_base.specs.declared.fault.DataFault.{DataFault}
 use Rattle.vcode_base.specs.declared.fault.MemoryFault.{MemoryFault}
-use Rattle.vcode_base.specs.declared.instr.Instr.TheVariants.{Const, Elementwise, Segmented, If, Move, Call, Return}
 use Rattle.vcode_base.specs.declared.limits.Limits.{Limits}
 use Rattle.vcode_base.specs.declared.op.Op.{Op}
 use Rattle.vcode_base.specs.declared.outcome.Outcome.{Outcome}
@@ -15,20 +14,18 @@ use Rattle.vcode_base.specs.declared.rule.Rule.{Rule}
 use Rattle.vcode_base.specs.Instructions.{op_of}
 use Rattle.vcode_base.specs.Laws.{ResultsHaveNeededLengths}
 use Rattle.vcode_base.specs.Meaning.{shape}
-use Rattle.vcode_reader.specs.Trees.{Item, Body, End, Do, Choice}
+use Rattle.vcode_reader.specs.Trees.{Item, Body}
 use Rattle.verifier.specs.Typed.{TypedProgram}
 use Rattle.job_steps.specs.Motions.{stack_after, depth_after}
 use Rattle.job_steps.specs.Reached.{AreAlike}
 use Rattle.job_steps.specs.Runs.{progress_from, state_after}
-use Rattle.job_steps.specs.States.{Vector, Task, StackEntry, Active, State, Callee, callee_named, calls_with}
-use Rattle.job_steps.specs.States.{held_words, new_entries}
-use Rattle.job_steps.specs.Steps.{Progress, Running, Over, Stuck, next_item, sources_of, question_of, results_of}
-use Rattle.job_steps.specs.Steps.{words_at, is_call, memory_fault, ending_by, calls_past, calls_after}
-use Rattle.job_steps.specs.Steps.{progress_past, next_progress}
+use Rattle.job_steps.specs.States.{Vector, Task, StackEntry, Active, State, held_words, new_entries}
+use Rattle.job_steps.specs.Steps.{Progress, Running, Over, next_item, sources_of, question_of, results_of, words_at}
+use Rattle.job_steps.specs.Steps.{is_call, memory_fault, ending_by, calls_after, next_progress}
 use Rattle.job_steps.proofs.Held.{Agree}
-use Rattle.job_steps.proofs.Progresses.{item_of, calls_then, Passes, Goes, Ends, Idles, Blocks, Executes, goes}
-use Rattle.job_steps.proofs.StackLemmas.{deep_of, All-stack_after, length-stack_after, length-results}
-use Rattle.job_steps.proofs.StackLemmas.{held_after, total_results}
+use Rattle.job_steps.proofs.Progresses.{item_of, calls_then, Passes, Goes, goes}
+use Rattle.job_steps.proofs.StackLemmas.{deep_of, All-stack_after, length-stack_after, length-results, held_after}
+use Rattle.job_steps.proofs.StackLemmas.{total_results}
 
 -- ---- the checks before an instruction
 
@@ -44,9 +41,7 @@ fits limits op words depth calls e = grind arith
 
 pub neither : (line : ℕ) (a : Option DataFault) (b : Option MemoryFault) → ending_by line a b ≡ None →
     (a ≡ None) × (b ≡ None)
-neither line (Some fault) b e = absurd (let h : ending_by line (Some fault) b ≡ None = e in cc)
-neither line None (Some fault) e = absurd (let h : ending_by line None (Some fault) ≡ None = e in cc)
-neither line None None e = (refl, refl)
+neither line a b e = grind arith
 
 pub shaped : (task : Task) (s : State) (call : Active) (outer : List Active) → Passes task s call outer →
     shape (op_of (item_of call)) (sources_of (item_of call) s.stack) ≡ None
@@ -59,30 +54,10 @@ fits_at task s call outer p = fits task.limits _ _ _ _ (neither (next_item call)
 
 -- ---- the calls afterwards
 
-calls_called : (o : Option Callee) (calls : List Active) → length (calls_with o calls) ≤ length calls + 1
-calls_called None calls = omega arith
-calls_called (Some callee) calls = omega arith
-
-length-calls_past : (verified : TypedProgram) (item : Item) (call : Active) (outer : List Active) (most : ℕ) →
-    suc (length outer) ≤ most →
-    (is_call (op_of item) ≡ true → suc (length outer) + 1 ≤ most) → length (calls_past verified item call outer) ≤ most
-length-calls_past verified (Const k list) call outer most now more = now
-length-calls_past verified (Elementwise e) call outer most now more = now
-length-calls_past verified (Segmented e) call outer most now more = now
-length-calls_past verified If call outer most now more = now
-length-calls_past verified (Move motion lower upper) call outer most now more = now
-length-calls_past verified (Call name) call outer most now more =
-    omega (arith, calls_called (callee_named verified name) (call ∷ outer), more refl)
-length-calls_past verified Return call outer most now more = omega arith
-
 length-calls_after : (verified : TypedProgram) (flag : Bool) (body : Body) (ret : ℕ) (outer : List Active) (most : ℕ) →
-    suc (length outer) ≤ most →
-    (is_call (op_of (item_of (record { rest = body; ret = ret }))) ≡ true → suc (length outer) + 1 ≤ most) →
-    length (calls_after verified flag body ret outer) ≤ most
-length-calls_after verified flag End ret outer most now more = omega arith
-length-calls_after verified flag (Do item line rest) ret outer most now more =
-    length-calls_past verified item (record { rest = rest; ret = ret }) outer most now more
-length-calls_after verified flag (Choice line first second end rest) ret outer most now more = now
+    suc (length outer) ≤ most → (is_call (op_of (item_of (record { rest = body; ret = ret }))) ≡ true →
+    suc (length outer) + 1 ≤ most) → length (calls_after verified flag body ret outer) ≤ most
+length-calls_after verified flag body ret outer most now more = grind arith
 
 -- ---- new entries
 
@@ -96,15 +71,7 @@ tags_from next (v ∷ vs) = grind (arith, All-cons, All-weaker, (tags_from (next
 
 new_agree : (next : ℕ) (vs : List Vector) → Agree (new_entries next vs)
 new_agree next [] = All-nil (λ e. All (AreAlike e) [])
-new_agree next (v ∷ vs) =
-    let new : StackEntry = record { tag = next; value = v } in
-    let later = new_entries (next + 1) vs in
-    let above : All (λ e. next + 1 ≤ e.tag) later = tags_from (next + 1) vs in
-    All-cons (λ x. All (AreAlike x) (new ∷ later)) new later
-    (All-cons (AreAlike new) new later (λ e. refl)
-    (All-weaker (λ x. next + 1 ≤ x.tag) (AreAlike new) (λ x h. λ e. absurd (omega arith)) later above))
-    (λ k d h. All-cons (AreAlike (get_or later k d)) new later (λ e. absurd (omega (arith, above k d h)))
-    (new_agree (next + 1) vs k d h))
+new_agree next (v ∷ vs) = grind (arith, tags_from, All-cons, All-weaker, (new_agree (next + 1) vs))
 
 agree_after : (op : Op) (rs xs : List StackEntry) → Agree rs →
     ((k : ℕ) (d : StackEntry) → k < length rs → All (AreAlike (get_or rs k d)) xs) →
@@ -142,8 +109,8 @@ unspent_within : (n budget : ℕ) → eqb n budget ≡ false → n ≤ budget �
 unspent_within n budget e h = grind (arith, nat_tests, e, h)
 
 bounded_past : ResultsHaveNeededLengths → (task : Task) (n : ℕ) (s : State) (call : Active) (outer : List Active) →
-    IsBounded task n s → Passes task s call outer →
-    IsBounded task (n + 1) (state_past task.rule (item_of call) s (calls_then task s call outer))
+    IsBounded task n s → Passes task s call outer → IsBounded task (n + 1)
+    (state_past task.rule (item_of call) s (calls_then task s call outer))
 bounded_past law task n s call outer b p =
     let op = op_of (item_of call) in
     let results = results_of (question_of (item_of call) s.stack) in
@@ -187,14 +154,9 @@ bounded_past law task n s call outer b p =
 pub over_running : (ending : Outcome (List Vector)) (x p : ℕ) (s : State) → Over ending x p ≡ Running s → ⊥
 over_running ending x p s e = cc
 
-pub stuck_running : (s : State) → Stuck ≡ Running s → ⊥
-stuck_running s e = cc
-
 pub running_from : (task : Task) (p : Progress) (s : State) → progress_from task p ≡ Running s →
     (t : State) × (p ≡ Running t) × (next_progress task t ≡ Running s)
-running_from task (Running t) s e = (t, refl, e)
-running_from task (Over ending x p) s e = absurd (over_running ending x p s e)
-running_from task Stuck s e = absurd (stuck_running s e)
+running_from task p s e = grind (arith, over_running)
 
 -- a step that goes on
 pub record Went (task : Task) (s next : State) : Type 0 where
@@ -206,17 +168,8 @@ pub record Went (task : Task) (s next : State) : Type 0 where
   pub calls : calls_then task s call outer ≡ last ∷ others
   pub new : state_past task.rule (item_of call) s (last ∷ others) ≡ next
 
-went_past : (task : Task) (s next : State) (call : Active) (outer : List Active) → Passes task s call outer →
-    (calls : List Active) → calls_then task s call outer ≡ calls →
-    progress_past task.rule (item_of call) s calls ≡ Running next → Went task s next
-went_past task s next call outer p [] is e = absurd (over_running _ _ _ next e)
-went_past task s next call outer p (last ∷ others) is e = grind arith
-
 went_by : (task : Task) (s next : State) (p : Progress) → Goes task s p → p ≡ Running next → Went task s next
-went_by task s next p (Ends ending early is) e = absurd (over_running _ _ _ next (sym is ∙ e))
-went_by task s next p (Idles none is) e = absurd (stuck_running next (sym is ∙ e))
-went_by task s next p (Blocks call outer calls runs is) e = absurd (stuck_running next (sym is ∙ e))
-went_by task s next p (Executes call outer passes is) e = went_past task s next call outer passes _ refl (sym is ∙ e)
+went_by task s next p h4 e = grind (arith, over_running)
 
 pub went : (task : Task) (s next : State) → next_progress task s ≡ Running next → Went task s next
 went task s next e = went_by task s next (next_progress task s) (goes task s) e
@@ -224,8 +177,8 @@ went task s next e = went_by task s next (next_progress task s) (goes task s) e
 pub bounded_next : ResultsHaveNeededLengths → (task : Task) (n : ℕ) (s next : State) → IsBounded task n s →
     Went task s next → IsBounded task (n + 1) next
 bounded_next law task n s next b w =
-    subst (IsBounded task (n + 1)) (ap (state_past task.rule (item_of w.call) s) w.calls
-    ∙ w.new) (bounded_past law task n s w.call w.outer b w.passes)
+    subst (IsBounded task (n + 1)) (ap (state_past task.rule (item_of w.call) s) w.calls ∙ w.new)
+    (bounded_past law task n s w.call w.outer b w.passes)
 
 -- each state that any job reaches is so
 pub bounded : ResultsHaveNeededLengths → (task : Task) (n : ℕ) (s : State) → state_after task n ≡ Running s →

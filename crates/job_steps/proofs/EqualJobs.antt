@@ -1,6 +1,5 @@
 -- Jobs are equal if their parts are.
-use Rattle.std.proofs.Common.{arith}
-use Rattle.std.proofs.Common.{◌≡◌, ◌≤◌, ℕ, Bool, ◌&&◌, refl, ap, subst}
+use Rattle.std.proofs.Common.{arith, ◌≡◌, ◌≤◌, ℕ, Bool, ◌&&◌, subst}
 use Rattle.std.specs.Bool.{Decides}
 use Rattle.std.specs.Coded.{le_prop, ×_prop}
 use Rattle.std.specs.Cmp.Lexicographic.{pointwise}
@@ -34,33 +33,24 @@ same_facts w c k b h h' i i' j j' l l' =
     λ t. limits_by w c k b (le_prop h h' t) (×_prop le_prop le_prop i i' t) (×_prop le_prop le_prop j j' t)
     (le_prop l l' t)
 
-same_numbers : (x y : Limits) → x.words ≡ y.words → x.cells ≡ y.cells → x.calls ≡ y.calls → x.budget ≡ y.budget →
-    x ≡ y
+same_numbers : (x y : Limits) → x.words ≡ y.words → x.cells ≡ y.cells → x.calls ≡ y.calls → x.budget ≡ y.budget → x ≡ y
 same_numbers x y ew ec ek eb =
-    subst (λ w. (h : w ≤ MOST_WORDS) →
-    x ≡ limits_by w y.cells y.calls y.budget h y.cells_in_range y.calls_in_range y.budget_in_range) ew
-    (λ h. subst (λ c. (i : (1 ≤ c) × (c ≤ MOST_CELLS)) →
-    x ≡ limits_by x.words c y.calls y.budget h i y.calls_in_range y.budget_in_range) ec
-    (λ i. subst (λ k. (j : (1 ≤ k) × (k ≤ MOST_CALLS)) →
-    x ≡ limits_by x.words x.cells k y.budget h i j y.budget_in_range) ek
-    (λ j. subst (λ b. (l : b ≤ MOST_BUDGET) → x ≡ limits_by x.words x.cells x.calls b h i j l) eb
-    (λ l. same_facts x.words x.cells x.calls x.budget x.words_in_range h x.cells_in_range i x.calls_in_range j
-    x.budget_in_range l) y.budget_in_range) y.calls_in_range) y.cells_in_range) y.words_in_range
+    subst (λ w. (h : w ≤ MOST_WORDS) → x ≡ limits_by w y.cells y.calls y.budget h y.cells_in_range y.calls_in_range
+    y.budget_in_range) ew (λ h. subst (λ c. (i : (1 ≤ c) × (c ≤ MOST_CELLS)) → x ≡ limits_by x.words c y.calls y.budget
+    h i y.calls_in_range y.budget_in_range) ec (λ i. subst (λ k. (j : (1 ≤ k) × (k ≤ MOST_CALLS)) → x ≡ limits_by
+    x.words x.cells k y.budget h i j y.budget_in_range) ek (λ j. subst (λ b. (l : b ≤ MOST_BUDGET) → x ≡ limits_by
+    x.words x.cells x.calls b h i j l) eb (λ l. same_facts x.words x.cells x.calls x.budget x.words_in_range h
+    x.cells_in_range i x.calls_in_range j x.budget_in_range l) y.budget_in_range) y.calls_in_range) y.cells_in_range)
+    y.words_in_range
 
-same_limits : (a b : Limits) → Decides
-    (nat_eq a.words b.words && (nat_eq a.cells b.cells && (nat_eq a.calls b.calls && nat_eq a.budget b.budget))) (a ≡ b)
+same_limits : (a b : Limits) → Decides (nat_eq a.words b.words &&
+    (nat_eq a.cells b.cells && (nat_eq a.calls b.calls && nat_eq a.budget b.budget))) (a ≡ b)
 same_limits a b = grind (arith, Decides-like, same_numbers, Decides-and, Decides-eqb)
 
 -- ---- jobs
 
 module _ {F : TypedProgram → TypedProgram → Bool} (exact : (p q : TypedProgram) → Decides (F p q) (p ≡ q)) where
-  pub same_jobs : (s t : JobValue) → Decides
-      (pointwise nat_eq s.name t.name && (F s.verified t.verified && (nat_eq s.limits.words t.limits.words
-      && (nat_eq s.limits.cells t.limits.cells && (nat_eq s.limits.calls t.limits.calls
-      && nat_eq s.limits.budget t.limits.budget))))) (s ≡ t)
-  same_jobs s t =
-      Decides-like _
-      (λ (n, (p, l)). λ i. record { name = n i; verified = p i; limits = l i })
-      (λ e. (ap (λ (u : JobValue). u.name) e, (ap (λ (u : JobValue). u.verified) e, ap (λ (u : JobValue). u.limits) e)))
-      (Decides-and _ _ (slice_eq-Decides Decides-eqb s.name t.name _ refl)
-      (Decides-and _ _ (exact s.verified t.verified) (same_limits s.limits t.limits)))
+  pub same_jobs : (s t : JobValue) → Decides (pointwise nat_eq s.name t.name && (F s.verified t.verified && (nat_eq
+      s.limits.words t.limits.words && (nat_eq s.limits.cells t.limits.cells && (nat_eq s.limits.calls t.limits.calls &&
+      nat_eq s.limits.budget t.limits.budget))))) (s ≡ t)
+  same_jobs s t = grind (arith, Decides-like, Decides-and, slice_eq-Decides, Decides-eqb, same_limits)

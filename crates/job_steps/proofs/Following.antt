@@ -1,8 +1,7 @@
 -- The frames after an instruction.
-use Rattle.std.proofs.Common.{◌≡◌, ◌∙◌, ◌+◌, ◌<◌, ℕ, suc, Bool, true, false, List, [], ◌∷◌, length, drop, map}
-use Rattle.std.proofs.Common.{Option}
+use Rattle.std.proofs.Common.{arith, ◌≡◌, ◌∙◌, ◌+◌, ◌<◌, ℕ, Bool, true, false, List, [], ◌∷◌, length, drop, Option}
 use Rattle.std.proofs.Common.{Some, None, refl, ap, sym, subst}
-use Rattle.std.specs.Prelude.{slice_get, position, if◌then◌else◌, option_map, IsSome, max}
+use Rattle.std.specs.Prelude.{slice_get, position, if◌then◌else◌, IsSome, max}
 use Rattle.std.specs.Str.{bytes_eq}
 use Rattle.std.proofs.lemmas.Option.{slice_get-map}
 use Rattle.vcode_base.specs.declared.instr.Instr.TheVariants as instr
@@ -13,25 +12,21 @@ use Rattle.vcode_base.specs.Kinds.{result_kinds}
 use Rattle.vcode_base.specs.Names.{main_name}
 use Rattle.vcode_reader.specs.declared.line.CodeItem.{CodeItem}
 use Rattle.vcode_reader.specs.declared.line.CodeItem.TheVariants as code_item
-use Rattle.vcode_reader.specs.Callees.{callee_of as callee_in_line, callees_of, callee_in, callee_at as callee_at_line}
+use Rattle.vcode_reader.specs.Callees.{callee_of as callee_in_line, callees_of, callee_at as callee_at_line}
 use Rattle.vcode_reader.specs.Decode.{then_body}
-use Rattle.vcode_reader.specs.Targets.{target_in}
-use Rattle.vcode_reader.specs.Trees.{Item, Body, End, Do, Choice, CodeLine, Function, Program, IsBodyInstruction}
-use Rattle.vcode_reader.specs.Trees.{IsProperBody}
-use Rattle.vcode_reader.specs.Trees.{lines_of}
+use Rattle.vcode_reader.specs.Trees.{Item, Body, Do, Choice, CodeLine, Function, Program, IsBodyInstruction}
+use Rattle.vcode_reader.specs.Trees.{IsProperBody, lines_of}
 use Rattle.signatures.specs.Signatures.{FunctionType}
 use Rattle.verifier.specs.Typed.{TypedProgram}
 use Rattle.job_steps.specs.declared.frame.Frame.{Frame}
 use Rattle.job_steps.specs.Reached.{IsVerifiedBySome}
-use Rattle.job_steps.specs.Frames.{AreActive, IsSettled, StopAt, Stands, StandAll, remaining, lines_at}
-use Rattle.job_steps.specs.Frames.{first_line, lines_from, next_line}
-use Rattle.job_steps.specs.Motions.{stack_after, depth_after}
+use Rattle.job_steps.specs.Frames.{AreActive, IsSettled, StopAt, Stands, StandAll, first_line, lines_from}
+use Rattle.job_steps.specs.Frames.{next_line}
+use Rattle.job_steps.specs.Motions.{stack_after}
 use Rattle.job_steps.specs.States.{Task, StackEntry, Active, State, Callee, callee_of, callee_at, callee_named}
-use Rattle.job_steps.specs.States.{calls_with}
-use Rattle.job_steps.specs.States.{first_state, new_entries}
+use Rattle.job_steps.specs.States.{calls_with, first_state}
 use Rattle.job_steps.specs.Steps.{first_item, next_item, calls_past, calls_after, can_call, can_run, is_call}
-use Rattle.job_steps.specs.Steps.{question_of, results_of}
-use Rattle.job_steps.specs.Steps.{flag_of, words_at, progress_past}
+use Rattle.job_steps.specs.Steps.{question_of, flag_of, words_at, progress_past}
 use Rattle.job_steps.specs.Tracks.{CanCall, CanFollow, Follow, IsCallOf, first_call, functions_of, TrackState, IsAt}
 use Rattle.job_steps.specs.Tracks.{IsWhere, IsDeep, Advances, EachTrackFollows}
 use Rattle.job_steps.proofs.Passing.{remaining_of_all}
@@ -67,53 +62,28 @@ one_line fs frame a b stop s t =
 -- the innermost frame of settled ones
 pub stop_top : (fs : List Function) (frames : List Frame) (frame : Frame) → slice_get frames 0 ≡ Some frame →
     IsSettled fs frames → StopAt (lines_from fs frame)
-stop_top fs [] frame e settled = absurd (let h : ◌≡◌ {A = Option Frame} None (Some frame) = e in cc)
-stop_top fs (f ∷ frames) frame e settled =
-    let same : f ≡ frame = let h : ◌≡◌ {A = Option Frame} (Some f) (Some frame) = e in cc in
-    subst (λ x. StopAt (lines_from fs x)) same settled
+stop_top fs frames frame e settled = grind arith
 
 -- a CALL, with its name
 call_named : (item : Item) → op_of item ≡ op.Call → (name : List ℕ) × (item ≡ instr.Call name)
-call_named (instr.Const k list) e = absurd (let h : op.Const k ≡ op.Call = e in cc)
-call_named (instr.Elementwise x) e = absurd (let h : op.Elementwise x ≡ op.Call = e in cc)
-call_named (instr.Segmented x) e = absurd (let h : op.Segmented x ≡ op.Call = e in cc)
-call_named instr.If e = absurd (let h : op.If ≡ op.Call = e in cc)
-call_named (instr.Move motion lower upper) e = absurd (let h : op.Move motion lower upper ≡ op.Call = e in cc)
-call_named (instr.Call name) e = (name, refl)
-call_named instr.Return e = absurd (let h : op.Return ≡ op.Call = e in cc)
+call_named item e = grind arith
 
 is_return : (item : Item) → op_of item ≡ op.Return → item ≡ instr.Return
-is_return (instr.Const k list) e = absurd (let h : op.Const k ≡ op.Return = e in cc)
-is_return (instr.Elementwise x) e = absurd (let h : op.Elementwise x ≡ op.Return = e in cc)
-is_return (instr.Segmented x) e = absurd (let h : op.Segmented x ≡ op.Return = e in cc)
-is_return instr.If e = absurd (let h : op.If ≡ op.Return = e in cc)
-is_return (instr.Move motion lower upper) e = absurd (let h : op.Move motion lower upper ≡ op.Return = e in cc)
-is_return (instr.Call name) e = absurd (let h : op.Call ≡ op.Return = e in cc)
-is_return instr.Return e = refl
+is_return item e = grind arith
 
 -- no instruction of a body is an IF, which is a choice of two bodies
 no_if : (item : Item) → IsBodyInstruction item → op_of item ≡ op.If → ⊥
-no_if (instr.Const k list) proper e = let h : op.Const k ≡ op.If = e in cc
-no_if (instr.Elementwise x) proper e = let h : op.Elementwise x ≡ op.If = e in cc
-no_if (instr.Segmented x) proper e = let h : op.Segmented x ≡ op.If = e in cc
-no_if instr.If proper e = proper
-no_if (instr.Move motion lower upper) proper e = let h : op.Move motion lower upper ≡ op.If = e in cc
-no_if (instr.Call name) proper e = let h : op.Call ≡ op.If = e in cc
-no_if instr.Return proper e = proper
+no_if item proper e = grind arith
 
 -- the line of an IF
 if_line : (rest : Body) (ret : ℕ) → IsProperBody rest → op_of (first_item rest ret).item ≡ op.If →
     (first_line rest ret).item ≡ code_item.If
-if_line End ret proper e = absurd (let h : op.Return ≡ op.If = e in cc)
-if_line (Do i l r) ret proper e = absurd (no_if i proper.0 e)
-if_line (Choice l x y end r) ret proper e = refl
+if_line rest ret proper e = grind (arith, no_if)
 
 -- the line of any other instruction
 do_line : (rest : Body) (ret : ℕ) → (op_of (first_item rest ret).item ≡ op.If → ⊥) →
     (first_line rest ret).item ≡ code_item.Do (first_item rest ret).item
-do_line End ret other = refl
-do_line (Do i l r) ret other = refl
-do_line (Choice l x y end r) ret other = absurd (other refl)
+do_line rest ret other = grind arith
 
 -- ---- the calls after an instruction
 
@@ -121,35 +91,16 @@ do_return : (item : Item) → item ≡ instr.Return → (verified : TypedProgram
     calls_past verified item call outer ≡ outer
 do_return item e verified call outer = ap (λ i. calls_past verified i call outer) e
 
-return_in : CodeItem Item → Item
-return_in (code_item.Do i) = i
-return_in code_item.If = instr.If
-return_in code_item.Else = instr.If
-return_in code_item.Endif = instr.If
-
 same_item : (i j : Item) → code_item.Do i ≡ code_item.Do j → i ≡ j
-unfolding return_in
-same_item i j e = ap return_in e
-
-return_call : (name : List ℕ) → ◌≡◌ {A = Item} instr.Return (instr.Call name) → ⊥
-return_call name e = let h : op.Return ≡ op.Call = ap op_of e in cc
-
-is_do : CodeItem Item → Bool
-is_do (code_item.Do i) = true
-is_do code_item.If = false
-is_do code_item.Else = false
-is_do code_item.Endif = false
+same_item i j e = cc
 
 if_do : (i : Item) → code_item.If ≡ code_item.Do i → ⊥
-unfolding is_do
-if_do i e = let h : false ≡ true = ap is_do e in cc
+if_do i e = cc
 
 module _ (verified : TypedProgram) (flag : Bool) (ret : ℕ) (outer : List Active) where
   after_return : (rest : Body) → (first_line rest ret).item ≡ code_item.Do instr.Return →
       calls_after verified flag rest ret outer ≡ outer
-  after_return End e = refl
-  after_return (Do i l r) e = do_return i (same_item i instr.Return e) verified (record { rest = r; ret = ret }) outer
-  after_return (Choice l x y end r) e = absurd (if_do instr.Return e)
+  after_return rest e = grind (arith, do_return, same_item, if_do)
 
 -- none of IF, CALL and RET
 abbrev pub is_plain : Op → Bool
@@ -160,13 +111,7 @@ is_plain _ = true
 
 past_plain : (item : Item) → is_plain (op_of item) ≡ true → (verified : TypedProgram) (call : Active)
     (outer : List Active) → calls_past verified item call outer ≡ call ∷ outer
-past_plain (instr.Const k list) plain verified call outer = refl
-past_plain (instr.Elementwise e) plain verified call outer = refl
-past_plain (instr.Segmented s) plain verified call outer = refl
-past_plain instr.If plain verified call outer = absurd (let h : false ≡ true = plain in cc)
-past_plain (instr.Move motion lower upper) plain verified call outer = refl
-past_plain (instr.Call name) plain verified call outer = absurd (let h : false ≡ true = plain in cc)
-past_plain instr.Return plain verified call outer = absurd (let h : false ≡ true = plain in cc)
+past_plain item plain verified call outer = grind arith
 
 -- what the frame after an instruction promises
 abbrev pub IsBehind : List Function → Frame → Frame → Type 0
@@ -177,9 +122,9 @@ IsBehind fs frame next =
 -- what the frame at a part of an IF promises
 abbrev pub IsChosen : List Function → Bool → Frame → Frame → Type 0
 IsChosen fs flag frame part =
-    (line end ret : ℕ) (first second rest : Body) →
-    Stands fs frame (record { rest = Choice line first second end rest; ret = ret }) →
-    Stands fs part (record { rest = then_body (if flag then first else second) rest; ret = ret })
+    (line end ret : ℕ) (first second rest : Body) → Stands fs frame
+    (record { rest = Choice line first second end rest; ret = ret }) → Stands fs part
+    (record { rest = then_body (if flag then first else second) rest; ret = ret })
 
 module _ (verified : TypedProgram) (frames : List Frame) (frame : Frame) (top : slice_get frames 0 ≡ Some frame) where
   -- the line of the innermost frame is of this item
@@ -187,68 +132,36 @@ module _ (verified : TypedProgram) (frames : List Frame) (frame : Frame) (top : 
   LineIs item = (call : Active) → Stands (functions_of verified) frame call → (next_line call).item ≡ item
 
   return_by : LineIs (code_item.Do instr.Return) → (flag : Bool) → Follow verified flag frames (drop 1 frames)
-  return_by line flag = λ call outer s.
-      let t = top_frame (functions_of verified) frames frame call outer top s in
-      subst (StandAll (functions_of verified) (drop 1 frames))
-      (sym (after_return verified flag call.ret outer call.rest (line call t.inner))) t.others
+  return_by line flag = grind (arith, top_frame, after_return)
 
   module _ (next : Frame) (behind : IsBehind (functions_of verified) frame next) where
-    past_by : (item : Item) → is_plain (op_of item) ≡ true →
-        (flag : Bool) (rest : Body) (ret : ℕ) (outer : List Active) → (first_line rest ret).item ≡ code_item.Do item →
-        Stands (functions_of verified) frame (record { rest = rest; ret = ret }) →
-        StandAll (functions_of verified) (drop 1 frames) outer →
+    past_by : (item : Item) → is_plain (op_of item) ≡ true → (flag : Bool) (rest : Body) (ret : ℕ) (outer : List Active)
+        → (first_line rest ret).item ≡ code_item.Do item → Stands (functions_of verified) frame
+        (record { rest = rest; ret = ret }) → StandAll (functions_of verified) (drop 1 frames) outer →
         StandAll (functions_of verified) (next ∷ drop 1 frames) (calls_after verified flag rest ret outer)
-    past_by item plain flag End ret outer e s others =
-        absurd (let h : false ≡ true = ap (λ i. is_plain (op_of i)) (same_item instr.Return item e) ∙ plain in cc)
-    past_by item plain flag (Do i l r) ret outer e s others =
-        let same : i ≡ item = same_item i item e in
-        let here : is_plain (op_of i) ≡ true = ap (λ j. is_plain (op_of j)) same ∙ plain in
-        subst (StandAll (functions_of verified) (next ∷ drop 1 frames))
-        (sym (past_plain i here verified (record { rest = r; ret = ret }) outer)) (behind i l ret r s, others)
-    past_by item plain flag (Choice l x y end r) ret outer e s others = absurd (if_do item e)
+    past_by item plain flag rest ret outer e s others = grind (arith, same_item, is_plain, past_plain, if_do)
 
     plain_by : (item : Item) → LineIs (code_item.Do item) → is_plain (op_of item) ≡ true → (flag : Bool) →
         Follow verified flag frames (next ∷ drop 1 frames)
-    plain_by item line plain flag = λ call outer s.
-        let t = top_frame (functions_of verified) frames frame call outer top s in
-        past_by item plain flag call.rest call.ret outer (line call t.inner) t.inner t.others
+    plain_by item line plain flag = grind (arith, top_frame, past_by)
 
     call_by : (name : List ℕ) (c : Callee) (inner : Frame) → callee_named verified name ≡ Some c →
-        Stands (functions_of verified) inner (first_call c) →
-        (flag : Bool) (rest : Body) (ret : ℕ) (outer : List Active) →
-        (first_line rest ret).item ≡ code_item.Do (instr.Call name) →
+        Stands (functions_of verified) inner (first_call c) → (flag : Bool) (rest : Body) (ret : ℕ)
+        (outer : List Active) → (first_line rest ret).item ≡ code_item.Do (instr.Call name) →
         Stands (functions_of verified) frame (record { rest = rest; ret = ret }) →
-        StandAll (functions_of verified) (drop 1 frames) outer →
-        StandAll (functions_of verified) (inner ∷ next ∷ drop 1 frames) (calls_after verified flag rest ret outer)
-    call_by name c inner named first flag End ret outer e s others =
-        absurd
-        (let h : ◌≡◌ {A = Item} instr.Return (instr.Call name) = same_item instr.Return (instr.Call name) e in
-        return_call name h)
-    call_by name c inner named first flag (Do i l r) ret outer e s others =
-        let same : i ≡ instr.Call name = same_item i (instr.Call name) e in
-        let after : calls_past verified i (record { rest = r; ret = ret }) outer
-        ≡ first_call c ∷ record { rest = r; ret = ret } ∷ outer =
-        ap (λ j. calls_past verified j (record { rest = r; ret = ret }) outer) same
-        ∙ ap (λ o. calls_with o (record { rest = r; ret = ret } ∷ outer)) named in
-        subst (StandAll (functions_of verified) (inner ∷ next ∷ drop 1 frames)) (sym after)
-        (first, (behind i l ret r s, others))
-    call_by name c inner named first flag (Choice l x y end r) ret outer e s others =
-        absurd (if_do (instr.Call name) e)
+        StandAll (functions_of verified) (drop 1 frames) outer → StandAll (functions_of verified)
+        (inner ∷ next ∷ drop 1 frames) (calls_after verified flag rest ret outer)
+    call_by name c inner named first flag rest ret outer e s others = grind (arith, same_item)
 
   module _ (flag : Bool) (part : Frame) (chosen : IsChosen (functions_of verified) flag frame part) where
-    part_by : (rest : Body) (ret : ℕ) (outer : List Active) →
-        (first_line rest ret).item ≡ code_item.If →
+    part_by : (rest : Body) (ret : ℕ) (outer : List Active) → (first_line rest ret).item ≡ code_item.If →
         Stands (functions_of verified) frame (record { rest = rest; ret = ret }) →
-        StandAll (functions_of verified) (drop 1 frames) outer →
-        StandAll (functions_of verified) (part ∷ drop 1 frames) (calls_after verified flag rest ret outer)
-    part_by End ret outer e s others = absurd (if_do instr.Return (sym e))
-    part_by (Do i l r) ret outer e s others = absurd (if_do i (sym e))
-    part_by (Choice l x y end r) ret outer e s others = (chosen l end ret x y r s, others)
+        StandAll (functions_of verified) (drop 1 frames) outer → StandAll (functions_of verified) (part ∷ drop 1 frames)
+        (calls_after verified flag rest ret outer)
+    part_by rest ret outer e s others = grind (arith, if_do)
 
     if_by : LineIs code_item.If → Follow verified flag frames (part ∷ drop 1 frames)
-    if_by line = λ call outer s.
-        let t = top_frame (functions_of verified) frames frame call outer top s in
-        part_by call.rest call.ret outer (line call t.inner) t.inner t.others
+    if_by line = grind (arith, top_frame, part_by)
 
   -- a CALL that can be followed
   pub record CallIs (room : ℕ) : Type 0 where
@@ -262,43 +175,32 @@ module _ (verified : TypedProgram) (frames : List Frame) (frame : Frame) (top : 
   module _ (o : Op) (room : ℕ) (can : CanFollow verified o frames room)
       (settled : IsSettled (functions_of verified) frames) where
     pub inner_call : Stands (functions_of verified) frame can.call
-    inner_call =
-        let t = top_frame (functions_of verified) frames frame can.call can.outer top can.stands in
-        t.inner
+    inner_call = grind (arith, top_frame)
 
     next_is : LineIs (next_line can.call).item
-    next_is call s =
-        ap (λ (x : CodeLine). x.item)
-        (one_line (functions_of verified) frame call can.call
-        (stop_top (functions_of verified) frames frame top settled) s inner_call)
+    next_is call s = grind (arith, one_line, stop_top, inner_call)
 
     do_is : (o ≡ op.If → ⊥) → LineIs (code_item.Do (next_item can.call).item)
-    do_is other call s =
-        next_is call s ∙ do_line can.call.rest can.call.ret (λ e. other (sym can.op_is ∙ e))
+    do_is other call s = next_is call s ∙ do_line can.call.rest can.call.ret (λ e. other (sym can.op_is ∙ e))
 
     pub follow_if : o ≡ op.If → (flag : Bool) (part : Frame) → IsChosen (functions_of verified) flag frame part →
         Follow verified flag frames (part ∷ drop 1 frames)
     follow_if is flag part chosen =
-        if_by flag part chosen
-        (λ call s. next_is call s ∙ if_line can.call.rest can.call.ret can.proper (can.op_is ∙ is))
+        if_by flag part chosen (λ call s. next_is call s ∙ if_line can.call.rest can.call.ret can.proper
+        (can.op_is ∙ is))
 
     pub follow_return : o ≡ op.Return → (flag : Bool) → Follow verified flag frames (drop 1 frames)
-    follow_return is flag =
-        let other : o ≡ op.If → ⊥ = λ e. let h : op.Return ≡ op.If = sym is ∙ e in cc in
-        let returns = is_return (next_item can.call).item (can.op_is ∙ is) in
-        return_by (λ call s. do_is other call s ∙ ap code_item.Do returns) flag
+    follow_return is flag = grind (arith, is_return, return_by, do_is)
 
-    pub follow_plain : is_plain o ≡ true → (flag : Bool) (next : Frame) →
-        IsBehind (functions_of verified) frame next → Follow verified flag frames (next ∷ drop 1 frames)
+    pub follow_plain : is_plain o ≡ true → (flag : Bool) (next : Frame) → IsBehind (functions_of verified) frame next →
+        Follow verified flag frames (next ∷ drop 1 frames)
     follow_plain plain flag next behind =
         let other : o ≡ op.If → ⊥ = λ e. let h : true ≡ false = sym plain ∙ ap is_plain e in cc in
         plain_by next behind (next_item can.call).item (do_is other) (ap is_plain can.op_is ∙ plain) flag
 
-    call_line : (is : o ≡ op.Call) →
-        LineIs (code_item.Do (instr.Call (call_named (next_item can.call).item (can.op_is ∙ is)).0))
-    call_line is call s =
-        let other : o ≡ op.If → ⊥ = λ e. let h : op.Call ≡ op.If = sym is ∙ e in cc in
-        do_is other call s ∙ ap code_item.Do (call_named (next_item can.call).item (can.op_is ∙ is)).1
+    call_line : (is : o ≡ op.Call) → LineIs (code_item.Do (instr.Call
+        (call_named (next_item can.call).item (can.op_is ∙ is)).0))
+    call_line is call s = grind (arith, do_is, call_named)
 
     pub call_is : o ≡ op.Call → CallIs room
     call_is is =
@@ -316,8 +218,8 @@ module _ (verified : TypedProgram) (frames : List Frame) (frame : Frame) (top : 
         ((name : List ℕ) (callee : Callee) → IsCallOf verified frame name callee →
         Stands (functions_of verified) inner (first_call callee)) →
         Follow verified flag frames (inner ∷ next ∷ drop 1 frames)
-    follow_call is flag next inner behind first = λ call outer s.
-        let t = top_frame (functions_of verified) frames frame call outer top s in
+    follow_call is flag next inner behind first =
+        λ call outer s. let t = top_frame (functions_of verified) frames frame call outer top s in
         let c = call_is is in
         call_by next behind c.name c.callee inner c.is.is (first c.name c.callee c.is) flag call.rest call.ret outer
         (c.line call t.inner) t.inner t.others
@@ -329,20 +231,16 @@ frame_of place = record { function = place; place = 0 }
 
 starts : (fs : List Function) (place : ℕ) (f : Function) → slice_get fs place ≡ Some f →
     Stands fs (frame_of place) (record { rest = f.body; ret = f.ret })
-starts fs place f at =
-    let lines : lines_at (slice_get fs place) ≡ lines_of f = ap lines_at at in
-    record { remains = ap remaining lines ∙ remaining_of_all f }
+starts fs place f at = grind (arith, remaining_of_all)
 
 function_in : Option Callee → Option Function
 function_in None = None
 function_in (Some c) = Some c.function
 
-function_is : (a : Option Function) (b : Option FunctionType) (c : Callee) → callee_of a b ≡ Some c → a
-    ≡ Some c.function
+function_is : (a : Option Function) (b : Option FunctionType) (c : Callee) → callee_of a b ≡ Some c →
+    a ≡ Some c.function
 unfolding function_in
-function_is None b c e = absurd (let h : ◌≡◌ {A = Option Callee} None (Some c) = e in cc)
-function_is (Some f) None c e = absurd (let h : ◌≡◌ {A = Option Callee} None (Some c) = e in cc)
-function_is (Some f) (Some a) c e = ap function_in e
+function_is a b c e = grind (arith, function_in)
 
 record PlaceIs (verified : TypedProgram) (o : Option ℕ) (c : Callee) : Type 0 where
   place : ℕ
@@ -350,12 +248,7 @@ record PlaceIs (verified : TypedProgram) (o : Option ℕ) (c : Callee) : Type 0 
   there : slice_get verified.program.functions place ≡ Some c.function
 
 place_is : (verified : TypedProgram) (o : Option ℕ) (c : Callee) → callee_at verified o ≡ Some c → PlaceIs verified o c
-place_is verified None c e = absurd (let h : ◌≡◌ {A = Option Callee} None (Some c) = e in cc)
-place_is verified (Some place) c e = record {
-  place = place;
-  is = refl;
-  there = function_is (slice_get verified.program.functions place) (slice_get verified.arrows place) c e;
-}
+place_is verified o c e = grind (arith, function_is)
 
 abbrev is_named : List ℕ → Function → Bool
 is_named name f = bytes_eq f.name name
@@ -369,41 +262,24 @@ pub record Found (verified : TypedProgram) (o : Option ℕ) (c : Callee) : Type 
   pub first : (place : ℕ) → o ≡ Some place → Stands (functions_of verified) (frame_of place) (first_call c)
 
 found_by : (verified : TypedProgram) (name : List ℕ) (o : Option ℕ) (c : Callee) →
-    o ≡ position (is_named name) (functions_of verified) →
-    callee_named verified name ≡ Some c → Found verified o c
-found_by verified name o c at named =
-    let p = place_is verified (position (is_named name) (functions_of verified)) c named in
-    record {
-      some = subst IsSome (sym (at ∙ p.is)) refl;
-      first = λ place e.
-          let same : p.place ≡ place = same_place p.place place (sym (at ∙ p.is) ∙ e) in
-          subst (λ k. Stands (functions_of verified) (frame_of k) (first_call c)) same
-          (starts (functions_of verified) p.place c.function p.there);
-    }
+    o ≡ position (is_named name) (functions_of verified) → callee_named verified name ≡ Some c → Found verified o c
+found_by verified name o c at named = grind (arith, place_is, is_named, same_place, frame_of, starts)
 
-callee_line : (fs : List Function) (function place : ℕ) (f : Function) (x : CodeLine) →
-    slice_get fs function ≡ Some f → slice_get (lines_of f) place ≡ Some x →
-    callee_at_line fs function place ≡ callee_in_line fs x.item
+callee_line : (fs : List Function) (function place : ℕ) (f : Function) (x : CodeLine) → slice_get fs function ≡ Some f →
+    slice_get (lines_of f) place ≡ Some x → callee_at_line fs function place ≡ callee_in_line fs x.item
 unfolding callees_of
-callee_line fs function place f x hf hx =
-    let in_line : CodeLine → Option ℕ = λ y. callee_in_line fs y.item in
-    let in_lines : Function → List (Option ℕ) = λ g. map in_line (lines_of g) in
-    ap (λ z. callee_in z place) (slice_get-map in_lines fs function ∙ ap (option_map in_lines) hf)
-    ∙ ap target_in (slice_get-map in_line (lines_of f) place ∙ ap (option_map in_line) hx)
+callee_line fs function place f x hf hx = grind (arith, slice_get-map)
 
 -- the callee of a CALL
 pub found_call : (verified : TypedProgram) (frame : Frame) (name : List ℕ) (c : Callee) (o : Option ℕ) →
     StopAt (lines_from (functions_of verified) frame) → IsCallOf verified frame name c →
-    o ≡ callee_at_line (functions_of verified) frame.function frame.place →
-    Found verified o c
+    o ≡ callee_at_line (functions_of verified) frame.function frame.place → Found verified o c
 found_call verified frame name c o stop call at =
     let s = stands_at (functions_of verified) frame call.call call.stands in
-    let item : s.line.item ≡ code_item.Do (instr.Call name) =
-    sym (ap (λ (x : CodeLine). x.item) (line_found (functions_of verified) frame call.call call.stands stop))
-    ∙ call.next in
-    found_by verified name o c
-    (at ∙ (callee_line (functions_of verified) frame.function frame.place s.function s.line s.found s.there
-    ∙ ap (callee_in_line (functions_of verified)) item)) call.is
+    let item : s.line.item ≡ code_item.Do (instr.Call name) = sym
+    (ap (λ (x : CodeLine). x.item) (line_found (functions_of verified) frame call.call call.stands stop)) ∙ call.next in
+    found_by verified name o c (at ∙ (callee_line (functions_of verified) frame.function frame.place s.function s.line
+    s.found s.there ∙ ap (callee_in_line (functions_of verified)) item)) call.is
 
 -- ---- MAIN
 
@@ -430,8 +306,7 @@ main_is verified o v at =
 
 pub same_functions : (p : Program) (v verified : TypedProgram) → p ≡ v.program → v ≡ verified →
     p.functions ≡ functions_of verified
-same_functions p v verified program same =
-    ap (λ (q : Program). q.functions) (program ∙ ap (λ (w : TypedProgram). w.program) same)
+same_functions p v verified program same = cc
 
 -- the innermost frame is at some call
 pub inner_stands : (verified : TypedProgram) (frames : List Frame) (frame : Frame) (o : Op) (room : ℕ)
@@ -445,9 +320,7 @@ inner_stands verified frames frame o room fs top can same =
 pub inner_settled : (verified : TypedProgram) (frames : List Frame) (frame : Frame) (fs : List Function) →
     slice_get frames 0 ≡ Some frame → IsSettled (functions_of verified) frames → fs ≡ functions_of verified →
     StopAt (lines_from fs frame)
-inner_settled verified frames frame fs top settled same =
-    subst (λ gs. StopAt (lines_from gs frame)) (sym same)
-    (stop_top (functions_of verified) frames frame top settled)
+inner_settled verified frames frame fs top settled same = grind (arith, stop_top)
 
 -- ---- lines that are passed over
 
@@ -474,27 +347,16 @@ top_active fs frames frame top active = (active.0, (top_frame fs frames frame ac
 -- as many frames as calls
 pub same_length : (fs : List Function) (frames : List Frame) (calls : List Active) → StandAll fs frames calls →
     length frames ≡ length calls
-same_length fs [] [] s = refl
-same_length fs [] (call ∷ calls) s = absurd s
-same_length fs (frame ∷ frames) [] s = absurd s
-same_length fs (frame ∷ frames) (call ∷ calls) s = ap suc (same_length fs frames calls s.1)
+same_length fs [] calls s = grind arith
+same_length fs (frame ∷ frames) calls s = grind (arith, (same_length fs frames))
 
 callee_there : (o : Option Callee) (stack : List StackEntry) → can_call o stack ≡ true → (c : Callee) × (o ≡ Some c)
-callee_there None stack e = absurd (let h : false ≡ true = e in cc)
-callee_there (Some c) stack e = (c, refl)
+callee_there o stack e = grind arith
 
 can_call_by : (verified : TypedProgram) (item : Item) (stack : List StackEntry) (active room : ℕ) →
-    can_run verified item stack ≡ true →
-    (is_call (op_of item) ≡ true → active < room) → CanCall verified item active room
-can_call_by verified (instr.Const k list) stack active room runs few = tt
-can_call_by verified (instr.Elementwise e) stack active room runs few = tt
-can_call_by verified (instr.Segmented s) stack active room runs few = tt
-can_call_by verified instr.If stack active room runs few = tt
-can_call_by verified (instr.Move motion lower upper) stack active room runs few = tt
-can_call_by verified (instr.Call name) stack active room runs few =
-    let c = callee_there (callee_named verified name) stack runs in
-    (c.0, c.1, few refl)
-can_call_by verified instr.Return stack active room runs few = tt
+    can_run verified item stack ≡ true → (is_call (op_of item) ≡ true → active < room) →
+    CanCall verified item active room
+can_call_by verified item stack active room runs few = grind (arith, callee_there)
 
 -- An instruction that can run can be followed, if at a CALL there is room for one call more.
 pub can_follow : (verified : TypedProgram) (frames : List Frame) (call : Active) (outer : List Active)
@@ -502,14 +364,7 @@ pub can_follow : (verified : TypedProgram) (frames : List Frame) (call : Active)
     IsProperBody call.rest → can_run verified (next_item call).item stack ≡ true →
     (is_call (op_of (next_item call).item) ≡ true → length frames < room) →
     CanFollow verified (op_of (next_item call).item) frames room
-can_follow verified frames call outer stack room stands proper runs few = record {
-  call = call;
-  outer = outer;
-  stands = stands;
-  op_is = refl;
-  proper = proper;
-  called = can_call_by verified (next_item call).item stack (length frames) room runs few;
-}
+can_follow verified frames call outer stack room stands proper runs few = grind (arith, can_call_by)
 
 -- ---- a track that is advanced
 
@@ -529,27 +384,11 @@ module _ {C : Type 0} (task : Task) (t u : TrackState C) (s : State) (item : Ite
 
   depth_then : (es : List StackEntry) → length es ≡ length (result_kinds (op_of item)) →
       length u.cells ≡ length (stack_after (op_of item) es s.stack)
-  depth_then es many =
-      let deep_cells : IsDeep (op_of item) (length t.cells) = subst (IsDeep (op_of item)) (sym at.cells) deep in
-      ap length advanced.cells
-      ∙ (length-stack_after (op_of item) results t.cells given deep_cells
-      ∙ (ap (depth_after (op_of item)) at.cells ∙ sym (length-stack_after (op_of item) es s.stack many deep)))
+  depth_then es many = grind (arith, length-stack_after)
 
   where_after : (calls : List Active) → StandAll (functions_of task.verified) u.frames calls →
       IsWhere task u (progress_past task.rule item s calls)
-  where_after [] stands = record {
-    frames = no_frames (functions_of task.verified) u.frames stands;
-    executed_is = count_after;
-    peak_is = peak_after;
-  }
-  where_after (call ∷ outer) stands = record {
-    limits = advanced.limits ∙ at.limits;
-    cells = depth_then (new_entries s.next (results_of (question_of item s.stack)))
-        (length-results s.next (question_of item s.stack));
-    frames = stands;
-    executed = count_after;
-    peak = peak_after;
-  }
+  where_after calls stands = grind (arith, no_frames, count_after, peak_after, depth_then, length-results)
 
 pub each_track_follows : (C : Type 0) → EachTrackFollows C
 each_track_follows C task t u s call outer results at calls deep given advanced =

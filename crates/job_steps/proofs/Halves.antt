@@ -1,7 +1,6 @@
 -- One step in two halves: what ends a job before the values are looked at, and what the values decide.
-use Rattle.std.proofs.Common.{rules}
-use Rattle.std.proofs.Common.{◌≡◌, ℕ, ◌+◌, ◌<◌, ◌≤◌, Bool, true, false, cond, eqb, List, [], ◌∷◌, Option, Some}
-use Rattle.std.proofs.Common.{None, refl, sym, ◌∙◌, ap, arith}
+use Rattle.std.proofs.Common.{rules, ◌≡◌, ℕ, ◌+◌, ◌<◌, ◌≤◌, Bool, true, false, cond, eqb, List, [], ◌∷◌, Option, Some}
+use Rattle.std.proofs.Common.{None, refl, ◌∙◌, ap, arith}
 use Rattle.std.proofs.lemmas.Bool.Decides.{nat_tests}
 use Rattle.std.proofs.lemmas.Option.{none-some, same_Some}
 use Rattle.vcode_base.specs.declared.outcome.Outcome.TheVariants.{Budget}
@@ -14,26 +13,21 @@ use Rattle.job_steps.specs.Reached.{IsVerifiedTask, Reaches, NeverStuck, EndIsOw
 use Rattle.job_steps.specs.Runs.{state_after}
 use Rattle.job_steps.specs.States.{Task, Active, State}
 use Rattle.job_steps.specs.Steps.{Ending, Progress, Running, Over, Stuck, next_item, sources_of, question_of, flag_of}
-use Rattle.job_steps.specs.Steps.{can_run, calls_after, progress_by, progress_unless, progress_in}
-use Rattle.job_steps.specs.Steps.{next_progress}
-
-some-none : {T : Type 0} (x : T) → ◌≡◌ {A = Option T} (Some x) None → ⊥
-some-none x e = none-some x (sym e)
+use Rattle.job_steps.specs.Steps.{can_run, calls_after, progress_by, progress_unless, progress_in, next_progress}
 
 -- what the values of the next instruction make of a state
 abbrev by_values : Task → State → Active → List Active → Progress
 by_values task s call outer =
     progress_by task.rule (value_fault (op_of (next_item call).item) (sources_of (next_item call).item s.stack))
-    (next_item call) s
-    (calls_after task.verified (flag_of (question_of (next_item call).item s.stack)) call.rest call.ret outer)
+    (next_item call) s (calls_after task.verified (flag_of (question_of (next_item call).item s.stack)) call.rest
+    call.ret outer)
 
 -- ---- an end before the values are looked at
 
 ends_run : (b : Bool) (o : Option Ending) (s : State) (q : Progress) (ending : Ending) → o ≡ Some ending →
-    (cond b (progress_unless o s q) Stuck ≡ Stuck → ⊥) →
-    cond b (progress_unless o s q) Stuck ≡ Over ending s.executed s.peak
-ends_run true o s q ending early goes = ap (λ k. progress_unless k s q) early
-ends_run false o s q ending early goes = absurd (goes refl)
+    (cond b (progress_unless o s q) Stuck ≡ Stuck → ⊥) → cond b (progress_unless o s q) Stuck ≡ Over ending s.executed
+    s.peak
+ends_run b o s q ending early goes = grind arith
 
 ends_calls : (task : Task) (s : State) (calls : List Active) (ending : Ending) →
     early_end_in task s calls ≡ Some ending → (progress_in task s calls ≡ Stuck → ⊥) →
@@ -64,9 +58,9 @@ pub early_ends : NeverStuck → Reaches → EndIsOwn → (signatures : List Sign
 early_ends stuck reaches own signatures task v n s ending e early =
     let count : s.executed ≡ n = (reaches signatures task v n s e).count in
     let one = after_one task n s e in
-    let over : state_after task (n + 1) ≡ Over ending n s.peak =
-    one ∙ (ends task s ending early (λ h. stuck signatures task v (n + 1) (one ∙ h))
-    ∙ ap (λ k. Over ending k s.peak) count) in
+    let over : state_after task (n + 1) ≡ Over ending n s.peak = one ∙
+    (ends task s ending early (λ h. stuck signatures task v (n + 1) (one ∙ h)) ∙ ap (λ k. Over ending k s.peak) count)
+    in
     let same = own task (n + 1) ending n s.peak over in
     record { over = over; outcome_is = same.0; executed_is = same.1; peak_is = same.2 }
 
@@ -84,13 +78,7 @@ passes_run : (task : Task) (s : State) (call : Active) (outer : List Active) (b 
     can_run task.verified (next_item call).item s.stack ≡ b → (o : Option Ending) → o ≡ None →
     (cond b (progress_unless o s (by_values task s call outer)) Stuck ≡ Stuck → ⊥) →
     Passes task s (call ∷ outer) (cond b (progress_unless o s (by_values task s call outer)) Stuck)
-passes_run task s call outer true runs o early goes = grind arith
-passes_run task s call outer false runs o early goes = absurd (goes refl)
-
-passes_calls : (task : Task) (s : State) (calls : List Active) → early_end_in task s calls ≡ None →
-    (progress_in task s calls ≡ Stuck → ⊥) → Passes task s calls (progress_in task s calls)
-passes_calls task s [] early goes = absurd (goes refl)
-passes_calls task s (call ∷ outer) early goes = grind (arith, passes_run)
+passes_run task s call outer b runs o early goes = grind arith
 
 -- the budget isn't spent, and nothing forbids the next instruction
 record PassesBudget (task : Task) (s : State) (p : Progress) : Type 0 where
@@ -101,15 +89,14 @@ passes_budget : (task : Task) (s : State) (b : Bool) → eqb s.executed task.lim
     cond b (Some Budget) (early_end_in task s s.calls) ≡ None →
     (cond b (Over Budget s.executed s.peak) (progress_in task s s.calls) ≡ Stuck → ⊥) →
     PassesBudget task s (cond b (Over Budget s.executed s.peak) (progress_in task s s.calls))
-passes_budget task s true is early goes = absurd (some-none Budget early)
-passes_budget task s false is early goes = record { unspent = is; passes = passes_calls task s s.calls early goes }
+passes_budget task s b is early goes = grind (arith, none-some, passes_run)
 
 passes : (task : Task) (s : State) → early_end task s ≡ None → (next_progress task s ≡ Stuck → ⊥) →
     PassesBudget task s (next_progress task s)
 unfolding next_progress
 passes task s early goes = passes_budget task s (eqb s.executed task.limits.budget) refl early goes
 
-unspent_below : (n count budget : ℕ) → eqb count budget ≡ false → count ≡ n → n ≤ budget → n < budget
+pub unspent_below : (n count budget : ℕ) → eqb count budget ≡ false → count ≡ n → n ≤ budget → n < budget
 unspent_below n count budget unspent is within = grind (arith, nat_tests, unspent, is, within)
 
 pub is_ready : NeverStuck → Reaches → (signatures : List Signature) (task : Task) → IsVerifiedTask signatures task →
@@ -128,10 +115,9 @@ is_ready stuck reaches signatures task v n s e early =
     }
 
 -- with a step begun, the budget isn't spent
-spent_none : (budget : ℕ) (s : State) (o : Option Ending) (b : Bool) → eqb s.executed budget ≡ b →
+pub spent_none : (budget : ℕ) (s : State) (o : Option Ending) (b : Bool) → eqb s.executed budget ≡ b →
     cond b (Some Budget) o ≡ None → eqb s.executed budget ≡ false
-spent_none budget s o true is early = absurd (some-none Budget early)
-spent_none budget s o false is early = is
+spent_none budget s o b is early = grind (arith, none-some)
 
 pub below_budget : Reaches → (signatures : List Signature) (task : Task) → IsVerifiedTask signatures task →
     (n : ℕ) (s : State) → state_after task n ≡ Running s → early_end task s ≡ None → n < task.limits.budget

@@ -1,27 +1,16 @@
 -- What an open event changes.
-use Rattle.std.proofs.Common.{arith}
-use Rattle.std.proofs.Common.{◌≡◌, ℕ, ◌+◌, Bool, true, false, cond, List, Option, Some, None, is_some, refl}
-use Rattle.std.proofs.Common.{sym, ◌∙◌, ap}
+use Rattle.std.proofs.Common.{arith, ◌≡◌, ℕ, ◌+◌, true, false, List, Option, Some, None, is_some, refl, sym, ◌∙◌, ap}
 use Rattle.std.proofs.lemmas.Bool.{false≢true}
 use Rattle.std.proofs.lemmas.Option.{none-some, same_Some}
 use Rattle.job_steps.specs.declared.event.Event.{Event}
 use Rattle.job_steps.specs.declared.event.Event.TheVariants.{Admit, Begin, Finish, Recall, Collect}
 use Rattle.job_steps.specs.EventLaws.{ChangesItsJob}
-use Rattle.job_steps.specs.Events.{early_end, standing_after_begin, standing_after, next_standing, named_job, job_of}
-use Rattle.job_steps.specs.Events.{
-  next_standing_in,
-  next_standing_of,
-  is_open,
-  with_next,
-  moved_queue,
-  passes_after,
-  after_event,
-}
+use Rattle.job_steps.specs.Events.{standing_after_begin, standing_after, next_standing, named_job, job_of}
+use Rattle.job_steps.specs.Events.{next_standing_in, next_standing_of, is_open, with_next, moved_queue, passes_after}
+use Rattle.job_steps.specs.Events.{after_event}
 use Rattle.job_steps.specs.Runs.{state_after}
-use Rattle.job_steps.specs.Standings.{Standing, Waiting, Live, InFlight, Ended, Collected, Queue, of_job}
-use Rattle.job_steps.specs.Standings.{with_standing}
+use Rattle.job_steps.specs.Standings.{Standing, Waiting, Live, InFlight, Ended, Collected, Queue, of_job, with_standing}
 use Rattle.job_steps.specs.States.{Task}
-use Rattle.job_steps.specs.Steps.{Progress, Running, Over, Stuck}
 
 -- ---- one job
 
@@ -65,24 +54,6 @@ changes (Collect job) task (InFlight n) new e = absurd (none-some new e)
 changes (Collect job) task Ended new e = Collects job refl refl (sym (same_Some Collected new e))
 changes (Collect job) task Collected new e = absurd (none-some new e)
 
--- no job that moved on waits again
-pub never_waits : (task : Task) (event : Event) (old new : Standing) → Changes task event old new → new ≡ Waiting → ⊥
-never_waits task event old new (Admits event_is old_is new_is) e = cc
-never_waits task event old new (Begins job n event_is old_is new_is) e =
-    begun_moved task n (state_after task n) (sym new_is ∙ e)
-  where
-    begun_by : (n : ℕ) (b : Bool) → cond b Ended (InFlight n) ≡ Waiting → ⊥
-    begun_by n true e = cc
-    begun_by n false e = cc
-
-    begun_moved : (task : Task) (n : ℕ) (p : Progress) → standing_after_begin task n p ≡ Waiting → ⊥
-    begun_moved task n (Running s) e = begun_by n (is_some (early_end task s)) e
-    begun_moved task n (Over ending x p) e = cc
-    begun_moved task n Stuck e = cc
-never_waits task event old new (Finishes job n event_is old_is new_is) e = grind arith
-never_waits task event old new (Recalls job n event_is old_is new_is) e = cc
-never_waits task event old new (Collects job event_is old_is new_is) e = cc
-
 -- ---- all jobs
 
 pub same_queue : (one other : Queue) → one.standings ≡ other.standings → one.passes ≡ other.passes → one ≡ other
@@ -94,9 +65,9 @@ pub record Comes (region : ℕ) (tasks : List Task) (event : Event) (queue : Que
   pub can : is_open region tasks event queue ≡ is_some next
   pub after : after_event region tasks event queue ≡ with_next event o next queue
 
-pub comes : (region : ℕ) (tasks : List Task) (event : Event) (queue : Queue) (o : Option ℕ)
-    (next : Option Standing) → job_of region tasks event queue ≡ o →
-    next_standing_of tasks event queue.standings o ≡ next → Comes region tasks event queue o next
+pub comes : (region : ℕ) (tasks : List Task) (event : Event) (queue : Queue) (o : Option ℕ) (next : Option Standing) →
+    job_of region tasks event queue ≡ o → next_standing_of tasks event queue.standings o ≡ next →
+    Comes region tasks event queue o next
 unfolding is_open after_event
 comes region tasks event queue o next job_is next_is = grind arith
 
@@ -120,9 +91,8 @@ pub data Happens (region : ℕ) (tasks : List Task) (event : Event) (queue : Que
       Happens region tasks event queue
 
 happens_in : (region : ℕ) (tasks : List Task) (event : Event) (queue : Queue) (job : ℕ) (new : Standing) →
-    job_of region tasks event queue ≡ Some job →
-    after_event region tasks event queue ≡ moved_queue event job new queue →
-    (task : Option Task) → of_job job tasks ≡ task → (old : Option Standing) → of_job job queue.standings ≡ old →
+    job_of region tasks event queue ≡ Some job → after_event region tasks event queue ≡ moved_queue event job new queue
+    → (task : Option Task) → of_job job tasks ≡ task → (old : Option Standing) → of_job job queue.standings ≡ old →
     next_standing_in event task old ≡ Some new → Opens region tasks event queue
 happens_in region tasks event queue job new job_is after None task_is old old_is e = absurd (none-some new e)
 happens_in region tasks event queue job new job_is after (Some task) task_is None old_is e = absurd (none-some new e)
@@ -140,39 +110,26 @@ happens_in region tasks event queue job new job_is after (Some task) task_is (So
 }
 
 happens_next : (region : ℕ) (tasks : List Task) (event : Event) (queue : Queue) (job : ℕ) →
-    job_of region tasks event queue ≡ Some job →
-    (next : Option Standing) → next_standing_of tasks event queue.standings (Some job) ≡ next →
-    Happens region tasks event queue
-happens_next region tasks event queue job job_is None next_is =
-    let c = comes region tasks event queue (Some job) None job_is next_is in Passed c.can c.after
+    job_of region tasks event queue ≡ Some job → (next : Option Standing) →
+    next_standing_of tasks event queue.standings (Some job) ≡ next → Happens region tasks event queue
+happens_next region tasks event queue job job_is None next_is = grind (arith, comes)
 happens_next region tasks event queue job job_is (Some new) next_is =
     let c = comes region tasks event queue (Some job) (Some new) job_is next_is in
-    Opened c.can
-    (happens_in region tasks event queue job new job_is c.after (of_job job tasks) refl (of_job job queue.standings)
-    refl next_is)
+    Opened c.can (happens_in region tasks event queue job new job_is c.after (of_job job tasks) refl
+    (of_job job queue.standings) refl next_is)
 
 happens_job : (region : ℕ) (tasks : List Task) (event : Event) (queue : Queue) (o : Option ℕ) →
     job_of region tasks event queue ≡ o → Happens region tasks event queue
-happens_job region tasks event queue None job_is =
-    let c = comes region tasks event queue None None job_is refl in Passed c.can c.after
+happens_job region tasks event queue None job_is = grind (arith, comes)
 happens_job region tasks event queue (Some job) job_is =
     happens_next region tasks event queue job job_is (next_standing_of tasks event queue.standings (Some job)) refl
 
-pub happens : (region : ℕ) (tasks : List Task) (event : Event) (queue : Queue) →
-    Happens region tasks event queue
-happens region tasks event queue =
-    happens_job region tasks event queue (job_of region tasks event queue) refl
+pub happens : (region : ℕ) (tasks : List Task) (event : Event) (queue : Queue) → Happens region tasks event queue
+happens region tasks event queue = grind (arith, happens_job)
 
-opens_by : (region : ℕ) (tasks : List Task) (event : Event) (queue : Queue) →
-    is_open region tasks event queue ≡ true → Happens region tasks event queue →
+pub opens : (region : ℕ) (tasks : List Task) (event : Event) (queue : Queue) → is_open region tasks event queue ≡ true →
     Opens region tasks event queue
-opens_by region tasks event queue can (Passed closed after) = absurd (false≢true (sym closed ∙ can))
-opens_by region tasks event queue can (Opened here all) = all
-
-pub opens : (region : ℕ) (tasks : List Task) (event : Event) (queue : Queue) →
-    is_open region tasks event queue ≡ true → Opens region tasks event queue
-opens region tasks event queue can =
-    opens_by region tasks event queue can (happens region tasks event queue)
+opens region tasks event queue can = grind (arith, false≢true, happens)
 
 -- an event is open if its job has a next standing by it
 pub open_where : (region : ℕ) (tasks : List Task) (event : Event) (queue : Queue) (job : ℕ) (task : Task)
@@ -182,18 +139,14 @@ pub open_where : (region : ℕ) (tasks : List Task) (event : Event) (queue : Que
 open_where region tasks event queue job task old new job_is task_is old_is new_is = grind (arith, comes)
 
 -- the job that an event names is its job
-pub named : (region : ℕ) (tasks : List Task) (event : Event) (queue : Queue) (job : ℕ) →
-    named_job event ≡ Some job → job_of region tasks event queue ≡ Some job
-named region tasks Admit queue job e = absurd (none-some job e)
-named region tasks (Begin k) queue job e = e
-named region tasks (Finish k) queue job e = e
-named region tasks (Recall k) queue job e = e
-named region tasks (Collect k) queue job e = e
+pub named : (region : ℕ) (tasks : List Task) (event : Event) (queue : Queue) (job : ℕ) → named_job event ≡ Some job →
+    job_of region tasks event queue ≡ Some job
+named region tasks event queue job e = grind (arith, none-some)
 
 -- ---- an event by its job
 
-pub changes_its_job : (region : ℕ) (tasks : List Task) (event : Event) (queue : Queue) (job : ℕ)
-    (task : Task) (old : Standing) → job_of region tasks event queue ≡ Some job → of_job job tasks ≡ Some task →
+pub changes_its_job : (region : ℕ) (tasks : List Task) (event : Event) (queue : Queue) (job : ℕ) (task : Task)
+    (old : Standing) → job_of region tasks event queue ≡ Some job → of_job job tasks ≡ Some task →
     of_job job queue.standings ≡ Some old → ChangesItsJob region tasks event queue job task old
 changes_its_job region tasks event queue job task old job_is task_is old_is =
     let here : next_standing_of tasks event queue.standings (Some job) ≡ next_standing event task old =
@@ -205,21 +158,10 @@ changes_its_job region tasks event queue job task old job_is task_is old_is =
       changed = λ new is. c.after ∙ ap (λ o. with_next event (Some job) o queue) is;
     }
 
-closed_by : (region : ℕ) (tasks : List Task) (event : Event) (queue : Queue) →
-    is_open region tasks event queue ≡ false → Happens region tasks event queue →
-    after_event region tasks event queue ≡ queue
-closed_by region tasks event queue closed (Passed same after) = after
-closed_by region tasks event queue closed (Opened can all) = absurd (false≢true (sym closed ∙ can))
-
 pub closed_changes_nothing : (region : ℕ) (tasks : List Task) (event : Event) (queue : Queue) →
     is_open region tasks event queue ≡ false → after_event region tasks event queue ≡ queue
-closed_changes_nothing region tasks event queue closed =
-    closed_by region tasks event queue closed (happens region tasks event queue)
-
-next_missing : (event : Event) (o : Option Task) → next_standing_in event o None ≡ None
-next_missing event None = refl
-next_missing event (Some task) = refl
+closed_changes_nothing region tasks event queue closed = grind (arith, false≢true, happens)
 
 pub missing_is_closed : (region : ℕ) (tasks : List Task) (event : Event) (queue : Queue) (job : ℕ) →
     named_job event ≡ Some job → of_job job queue.standings ≡ None → is_open region tasks event queue ≡ false
-missing_is_closed region tasks event queue job e missing = grind (arith, next_missing, comes, named)
+missing_is_closed region tasks event queue job e missing = grind (arith, comes, named)

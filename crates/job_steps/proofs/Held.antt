@@ -1,7 +1,6 @@
 -- The words that a stack holds, if entries with one tag have one value.
-use Rattle.std.proofs.Common.{rules}
-use Rattle.std.proofs.Common.{◌≡◌, ℕ, ◌+◌, ◌≤◌, Bool, true, false, cond, eqb, not, List, [], ◌∷◌, ◌++◌, length}
-use Rattle.std.proofs.Common.{refl, sym, ◌∙◌, ap, subst, inl, inr, arith}
+use Rattle.std.proofs.Common.{rules, ◌≡◌, ℕ, ◌+◌, ◌≤◌, Bool, true, false, cond, eqb, not, List, [], ◌∷◌, ◌++◌, length}
+use Rattle.std.proofs.Common.{refl, sym, ap, subst, inl, inr, arith}
 use Rattle.std.specs.Prelude.{All, ◌⊎◌, ◌||◌, filter}
 use Rattle.std.proofs.lemmas.List.Elements.{All-nil, All-cons, All-head, All-tail, All-weaker, All-filter}
 use Rattle.job_steps.specs.States.{Vector, StackEntry, has_tag, held_words}
@@ -14,8 +13,7 @@ Has (x ∷ xs) e = (x ≡ e) ⊎ Has xs e
 
 pub has_itself : (xs : List StackEntry) → All (Has xs) xs
 has_itself [] = All-nil (Has [])
-has_itself (x ∷ xs) =
-    All-cons (Has (x ∷ xs)) x xs (inl refl) (All-weaker (Has xs) (Has (x ∷ xs)) (λ e h. inr h) xs (has_itself xs))
+has_itself (x ∷ xs) = grind (arith, All-cons, Has, All-weaker, (has_itself xs))
 
 -- the entries of other tags
 abbrev others : ℕ → List StackEntry → List StackEntry
@@ -25,45 +23,26 @@ others tag xs = filter (λ e. not (eqb e.tag tag)) xs
 abbrev IsLong : ℕ → ℕ → StackEntry → Type 0
 IsLong tag size e = e.tag ≡ tag → length e.value.words ≡ size
 
-either_false : (a b : Bool) → (a || b) ≡ false → (a ≡ false) × (b ≡ false)
-either_false true b e = absurd (let h : true ≡ false = e in cc)
-either_false false b e = (refl, e)
-
 others_same : (tag : ℕ) (xs : List StackEntry) → has_tag tag xs ≡ false → others tag xs ≡ xs
 others_same tag [] e = refl
-others_same tag (x ∷ xs) e =
-    let apart = either_false (eqb x.tag tag) (has_tag tag xs) e in
-    ap (λ b. cond (not b) (x ∷ others tag xs) (others tag xs)) apart.0
-    ∙ ap (λ zs. x ∷ zs) (others_same tag xs apart.1)
+others_same tag (x ∷ xs) e = grind (arith, others, (others_same tag xs))
 
 -- the first of a list with the entries of other tags after it
 has_chosen : (tag other : ℕ) (x : StackEntry) (xs : List StackEntry) → eqb other tag ≡ false →
-    has_tag other (others tag xs) ≡ has_tag other xs →
-    (b : Bool) → eqb x.tag tag ≡ b →
+    has_tag other (others tag xs) ≡ has_tag other xs → (b : Bool) → eqb x.tag tag ≡ b →
     has_tag other (cond (not b) (x ∷ others tag xs) (others tag xs)) ≡ (eqb x.tag other || has_tag other xs)
-has_chosen tag other x xs d later true p = grind arith
-has_chosen tag other x xs d later false p = ap (λ b. eqb x.tag other || b) later
+has_chosen tag other x xs d later b p = grind arith
 
 has_others : (tag other : ℕ) (xs : List StackEntry) → eqb other tag ≡ false →
     has_tag other (others tag xs) ≡ has_tag other xs
 has_others tag other [] d = refl
 has_others tag other (x ∷ xs) d = has_chosen tag other x xs d (has_others tag other xs d) (eqb x.tag tag) refl
 
--- the words of the first of a list, if it has the tag
-held_first : (tag size : ℕ) (x : StackEntry) (xs : List StackEntry) → x.tag ≡ tag → length x.value.words ≡ size →
-    (has_tag tag xs ≡ true → held_words xs ≡ size + held_words (others tag xs)) →
-    (c : Bool) → has_tag tag xs ≡ c →
-    cond (has_tag x.tag xs) 0 (length x.value.words) + held_words xs ≡ size + held_words (others tag xs)
-held_first tag size x xs same long later true q = grind arith
-held_first tag size x xs same long later false q = grind (arith, others_same)
-
 held_chosen : (tag size : ℕ) (x : StackEntry) (xs : List StackEntry) → IsLong tag size x →
-    (has_tag tag xs ≡ true → held_words xs ≡ size + held_words (others tag xs)) →
-    (b : Bool) → eqb x.tag tag ≡ b → (b || has_tag tag xs) ≡ true →
-    cond (has_tag x.tag xs) 0 (length x.value.words) + held_words xs
-    ≡ size + held_words (cond (not b) (x ∷ others tag xs) (others tag xs))
-held_chosen tag size x xs long later true p e = grind (arith, held_first)
-held_chosen tag size x xs long later false p e = grind (arith, has_others)
+    (has_tag tag xs ≡ true → held_words xs ≡ size + held_words (others tag xs)) → (b : Bool) → eqb x.tag tag ≡ b →
+    (b || has_tag tag xs) ≡ true → cond (has_tag x.tag xs) 0 (length x.value.words) + held_words xs ≡ size + held_words
+    (cond (not b) (x ∷ others tag xs) (others tag xs))
+held_chosen tag size x xs long later b p e = grind (arith, others_same, has_others)
 
 -- a tag's value counts once
 held_others : (tag size : ℕ) (xs : List StackEntry) → All (IsLong tag size) xs → has_tag tag xs ≡ true →
@@ -73,30 +52,17 @@ held_others tag size (x ∷ xs) long e =
     held_chosen tag size x xs (All-head (IsLong tag size) x xs long)
     (held_others tag size xs (All-tail (IsLong tag size) x xs long)) (eqb x.tag tag) refl e
 
-kept_behind : (tag : ℕ) (x : StackEntry) (xs : List StackEntry) (e : StackEntry) → Has (others tag xs) e → (b : Bool) →
-    Has (cond (not b) (x ∷ others tag xs) (others tag xs)) e
-kept_behind tag x xs e h true = h
-kept_behind tag x xs e h false = inr h
-
 kept : (tag : ℕ) (xs : List StackEntry) (e : StackEntry) → eqb e.tag tag ≡ false → Has xs e → Has (others tag xs) e
 kept tag [] e d h = absurd h
-kept tag (x ∷ xs) e d (inl is) = grind arith
-kept tag (x ∷ xs) e d (inr h) = kept_behind tag x xs e (kept tag xs e d h) (eqb x.tag tag)
-
-either_true : (b : Bool) → (b || true) ≡ true
-either_true true = refl
-either_true false = refl
+kept tag (x ∷ xs) e d h = grind (arith, (kept tag xs))
 
 has_tagged : (xs : List StackEntry) (e : StackEntry) → Has xs e → has_tag e.tag xs ≡ true
 has_tagged [] e h = absurd h
-has_tagged (x ∷ xs) e (inl is) = grind arith
-has_tagged (x ∷ xs) e (inr h) = ap (λ b. eqb x.tag e.tag || b) (has_tagged xs e h) ∙ either_true (eqb x.tag e.tag)
+has_tagged (x ∷ xs) e h = grind (arith, (has_tagged xs))
 
 untagged : (tag : ℕ) (xs : List StackEntry) → has_tag tag xs ≡ false → All (λ e. eqb e.tag tag ≡ false) xs
 untagged tag [] h = All-nil (λ e. eqb e.tag tag ≡ false)
-untagged tag (x ∷ xs) h =
-    let apart = either_false (eqb x.tag tag) (has_tag tag xs) h in
-    All-cons (λ e. eqb e.tag tag ≡ false) x xs apart.0 (untagged tag xs apart.1)
+untagged tag (x ∷ xs) h = grind (arith, All-cons, (untagged tag xs))
 
 All-has : (P : StackEntry → Type 0) (xs : List StackEntry) (e : StackEntry) → All P xs → Has xs e → P e
 All-has P [] e all h = absurd h
@@ -126,20 +92,20 @@ among_others tag xs (y ∷ ys) p q =
     )
 
 among_chosen : (y : StackEntry) (ys xs : List StackEntry) → All (Has xs) (y ∷ ys) → Agree xs →
-    ((zs : List StackEntry) → All (Has zs) ys → Agree zs → held_words ys ≤ held_words zs) →
-    (b : Bool) → has_tag y.tag ys ≡ b → cond b 0 (length y.value.words) + held_words ys ≤ held_words xs
+    ((zs : List StackEntry) → All (Has zs) ys → Agree zs → held_words ys ≤ held_words zs) → (b : Bool) →
+    has_tag y.tag ys ≡ b → cond b 0 (length y.value.words) + held_words ys ≤ held_words xs
 among_chosen y ys xs among agree later true none = omega (arith, later xs (All-tail (Has xs) y ys among) agree)
 among_chosen y ys xs among agree later false none =
     let here : Has xs y = All-head (Has xs) y ys among in
-    let long : All (IsLong y.tag (length y.value.words)) xs =
-    All-weaker (AreAlike y) (IsLong y.tag (length y.value.words))
+    let long : All (IsLong y.tag (length y.value.words)) xs = All-weaker (AreAlike y)
+    (IsLong y.tag (length y.value.words))
     (λ e alike. λ same. ap (λ (v : Vector). length v.words) (sym (alike (sym same)))) xs
     (All-has (λ x. All (AreAlike x) xs) xs y agree here) in
     let rest = among_others y.tag xs ys (untagged y.tag ys none) (All-tail (Has xs) y ys among) in
-    let fewer : held_words ys ≤ held_words (others y.tag xs) =
-    later (others y.tag xs) rest (agree_others y.tag xs agree) in
-    let whole : held_words xs ≡ length y.value.words + held_words (others y.tag xs)
-    = held_others y.tag (length y.value.words) xs long (has_tagged xs y here) in
+    let fewer : held_words ys ≤ held_words (others y.tag xs) = later (others y.tag xs) rest
+    (agree_others y.tag xs agree) in
+    let whole : held_words xs ≡ length y.value.words + held_words (others y.tag xs) = held_others y.tag
+    (length y.value.words) xs long (has_tagged xs y here) in
     omega arith
 
 -- Entries that are all among others hold no more than those.
@@ -153,8 +119,7 @@ total_words [] = 0
 total_words (e ∷ es) = length e.value.words + total_words es
 
 counted : (b : Bool) (n m k : ℕ) → m ≤ k → cond b 0 n + m ≤ n + k
-counted true n m k h = omega arith
-counted false n m k h = omega arith
+counted b n m k h = grind arith
 
 pub held_append : (xs ys : List StackEntry) → held_words (xs ++ ys) ≤ total_words xs + held_words ys
 held_append [] ys = omega arith

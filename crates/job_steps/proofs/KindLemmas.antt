@@ -1,13 +1,11 @@
 -- The kinds of stacks.
-use Rattle.std.proofs.Common.{◌≡◌, ℕ, ◌+◌, ◌≤◌, Bool, true, false, List, [], ◌∷◌, ◌++◌, length, map, take}
-use Rattle.std.proofs.Common.{drop, refl, sym, ◌∙◌, ap, arith}
+use Rattle.std.proofs.Common.{◌≡◌, ℕ, ◌+◌, ◌≤◌, true, List, [], ◌∷◌, ◌++◌, length, map, take, drop, refl, sym, ◌∙◌, ap}
+use Rattle.std.proofs.Common.{arith}
 use Rattle.std.specs.Prelude.{reverse, ◌&&◌}
 use Rattle.std.proofs.lemmas.List.{length-append, length-take, length-drop, length-reverse, length-map, map-append}
 use Rattle.std.proofs.lemmas.List.{reverse-append, reverse-reverse, take-append-drop, append_assoc}
 use Rattle.vcode_base.specs.declared.kind.Kind.{Kind}
-use Rattle.vcode_base.specs.declared.kind.Kind.TheVariants.{Int, Bool as Flags, Segdes}
 use Rattle.vcode_base.specs.declared.op.StackMove.{StackMove}
-use Rattle.vcode_base.specs.declared.op.StackMove.TheVariants.{Copy, Pop, MoveToTop}
 use Rattle.vcode_base.specs.Kinds.{is_same_kind, are_same_kinds}
 use Rattle.vcode_base.specs.Motions.{entries_after_move}
 use Rattle.job_steps.specs.Motions.{top_entries, stack_after_move}
@@ -30,9 +28,6 @@ pub map-reverse : {A B : Type 0} (f : A → B) (xs : List A) → map f (reverse 
 map-reverse f [] = refl
 map-reverse f (x ∷ xs) = grind (arith, reverse-cons, map-append, (map-reverse f xs))
 
-pub stack_kinds-reverse : (xs : List StackEntry) → stack_kinds (reverse xs) ≡ map kind_of xs
-stack_kinds-reverse xs = ap reverse (map-reverse kind_of xs) ∙ reverse-reverse (map kind_of xs)
-
 -- ---- two lists one after another, split at the begin of the second
 
 pub record IsSplit (xs ys zs ws : List Kind) : Type 0 where
@@ -41,16 +36,9 @@ pub record IsSplit (xs ys zs ws : List Kind) : Type 0 where
 
 pub split_same : (xs ys zs ws : List Kind) → xs ++ ys ≡ zs ++ ws → length ys ≡ length ws → IsSplit xs ys zs ws
 split_same [] ys [] ws e n = record { front = refl; back = e }
-split_same [] ys (z ∷ zs) ws e n =
-    absurd (let h : length ys ≡ length (z ∷ (zs ++ ws)) = ap length e in omega (arith, length-append zs ws))
-split_same (x ∷ xs) ys [] ws e n =
-    absurd (let h : length (x ∷ (xs ++ ys)) ≡ length ws = ap length e in omega (arith, length-append xs ys))
-split_same (x ∷ xs) ys (z ∷ zs) ws e n =
-    let first : x ≡ z = cc in
-    let later : xs ++ ys ≡ zs ++ ws = cc in
-    let rest = split_same xs ys zs ws later n in
-    let front : xs ≡ zs = rest.front in
-    record { front = (cc); back = rest.back }
+split_same [] ys (z ∷ zs) ws e n = grind (arith, length-append)
+split_same (x ∷ xs) ys [] ws e n = grind (arith, length-append)
+split_same (x ∷ xs) ys (z ∷ zs) ws e n = grind (arith, (split_same xs ys zs ws))
 
 -- the top entries of a stack and those below them
 pub record IsCut (stack : List StackEntry) (below own : List Kind) : Type 0 where
@@ -62,20 +50,17 @@ pub cut : (stack : List StackEntry) (below own : List Kind) → stack_kinds stac
 cut stack below own e =
     let count = length own in
     let deep : count ≤ length stack = omega (arith, length-stack_kinds stack, ap length e, length-append below own) in
-    let whole : stack_kinds (drop count stack) ++ stack_kinds (take count stack) ≡ below ++ own
-    = sym (stack_kinds-append (take count stack) (drop count stack))
-    ∙ (ap stack_kinds (take-append-drop count stack) ∙ e) in
-    let size : length (stack_kinds (take count stack)) ≡ count =
-    omega (arith, length-stack_kinds (take count stack), length-take count stack) in
+    let whole : stack_kinds (drop count stack) ++ stack_kinds (take count stack) ≡ below ++ own = sym
+    (stack_kinds-append (take count stack) (drop count stack)) ∙ (ap stack_kinds (take-append-drop count stack) ∙ e) in
+    let size : length (stack_kinds (take count stack)) ≡ count = omega
+    (arith, length-stack_kinds (take count stack), length-take count stack) in
     let parts = split_same (stack_kinds (drop count stack)) (stack_kinds (take count stack)) below own whole size in
     record { deep = deep; top = parts.back; under = parts.front }
 
 -- ---- the test of kinds
 
 same_kind : (k : Kind) → is_same_kind k k ≡ true
-same_kind Int = refl
-same_kind Flags = refl
-same_kind Segdes = refl
+same_kind k = grind arith
 
 pub same_kinds : (ks : List Kind) → are_same_kinds ks ks ≡ true
 same_kinds [] = refl
@@ -84,16 +69,9 @@ same_kinds (k ∷ ks) = ap (λ b. b && are_same_kinds ks ks) (same_kind k) ∙ s
 pub on_top : (stack : List StackEntry) (below own : List Kind) → IsCut stack below own → has_on_top own stack ≡ true
 on_top stack below own c = ap (are_same_kinds own) c.top ∙ same_kinds own
 
-both_true : (a b : Bool) → (a && b) ≡ true → b ≡ true
-both_true true b e = e
-both_true false b e = absurd (let h : false ≡ true = e in cc)
-
 same_lengths : (ks ls : List Kind) → are_same_kinds ks ls ≡ true → length ks ≡ length ls
-same_lengths [] [] e = refl
-same_lengths [] (l ∷ ls) e = absurd (let h : false ≡ true = e in cc)
-same_lengths (k ∷ ks) [] e = absurd (let h : false ≡ true = e in cc)
-same_lengths (k ∷ ks) (l ∷ ls) e =
-    omega (arith, same_lengths ks ls (both_true (is_same_kind k l) (are_same_kinds ks ls) e))
+same_lengths [] ls e = grind arith
+same_lengths (k ∷ ks) ls e = grind (arith, (same_lengths ks))
 
 -- entries of these kinds are there
 pub there : (own : List Kind) (stack : List StackEntry) → has_on_top own stack ≡ true → length own ≤ length stack
@@ -102,18 +80,16 @@ there own stack e = grind (arith, same_lengths, length-stack_kinds, length-take)
 -- ---- the kinds of results, and of entries that are moved
 
 kinds-move : (motion : StackMove) (lower upper : List StackEntry) →
-    map kind_of (entries_after_move motion lower upper)
-    ≡ entries_after_move motion (map kind_of lower) (map kind_of upper)
-kinds-move Copy lower upper = map-append kind_of lower (upper ++ lower)
-    ∙ ap (λ zs. map kind_of lower ++ zs) (map-append kind_of upper lower)
-kinds-move Pop lower upper = refl
-kinds-move MoveToTop lower upper = map-append kind_of upper lower
+    map kind_of (entries_after_move motion lower upper) ≡ entries_after_move motion (map kind_of lower)
+    (map kind_of upper)
+kinds-move motion lower upper = grind (arith, map-append, kind_of)
 
 -- an instruction that replaces the top entries
 pub kinds-pushed : (stack : List StackEntry) (below own gives : List Kind) (results : List StackEntry) →
-    IsCut stack below own → map kind_of results ≡ gives →
-    stack_kinds (reverse results ++ drop (length own) stack) ≡ below ++ gives
-kinds-pushed stack below own gives results c e = grind (arith, stack_kinds-append, stack_kinds-reverse)
+    IsCut stack below own → map kind_of results ≡ gives → stack_kinds (reverse results ++ drop (length own) stack) ≡
+    below ++ gives
+kinds-pushed stack below own gives results c e =
+    grind (arith, stack_kinds-append, map-reverse, kind_of, reverse-reverse)
 
 pub kinds-top_entries : (count : ℕ) (stack : List StackEntry) (own : List Kind) → stack_kinds (take count stack) ≡ own →
     map kind_of (top_entries count stack) ≡ own
@@ -121,10 +97,8 @@ kinds-top_entries count stack own e = map-reverse kind_of (take count stack) ∙
 
 -- a motion
 pub kinds-moved : (motion : StackMove) (stack : List StackEntry) (below lower upper : List Kind) →
-    stack_kinds stack ≡ below ++ (lower ++ upper) →
-    (length lower + length upper ≤ length stack)
-    × (stack_kinds (stack_after_move motion (length lower) (length upper) stack)
-    ≡ below ++ entries_after_move motion lower upper)
+    stack_kinds stack ≡ below ++ (lower ++ upper) → (length lower + length upper ≤ length stack) × (stack_kinds
+    (stack_after_move motion (length lower) (length upper) stack) ≡ below ++ entries_after_move motion lower upper)
 kinds-moved motion stack below lower upper e =
     let first = cut stack (below ++ lower) upper (e ∙ sym (append_assoc below lower upper)) in
     let second = cut (drop (length upper) stack) below lower first.under in

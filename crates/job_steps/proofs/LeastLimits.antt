@@ -1,26 +1,22 @@
 -- A verified job that returns does so within other limits exactly if they are at least what it uses.
-use Rattle.std.proofs.Common.{◌≡◌, ℕ, zero, suc, ◌+◌, ◌-◌, ◌≤◌, max, Bool, true, false, eqb, List, []}
-use Rattle.std.proofs.Common.{◌∷◌, length, Option, Some, None, refl, sym, ◌∙◌, ap, subst, arith}
+use Rattle.std.proofs.Common.{◌≡◌, ℕ, zero, suc, ◌+◌, ◌-◌, ◌≤◌, max, true, false, eqb, List, [], ◌∷◌, length, None}
+use Rattle.std.proofs.Common.{refl, sym, ◌∙◌, ap, subst, arith}
 use Rattle.std.proofs.Math.Nat.{le-max_left, le-max_right, max-le}
 use Rattle.std.proofs.lemmas.Bool.Decides.{nat_tests}
-use Rattle.vcode_base.specs.declared.instr.Instr.TheVariants.{Const, Elementwise, Segmented, If, Move, Call, Return}
 use Rattle.vcode_base.specs.declared.limits.Limits.{Limits}
 use Rattle.vcode_base.specs.declared.op.Op.{Op}
 use Rattle.vcode_base.specs.declared.outcome.Outcome.{Outcome}
 use Rattle.vcode_base.specs.Instructions.{op_of}
-use Rattle.vcode_reader.specs.Trees.{Item, Body, End, Do, Choice}
-use Rattle.verifier.specs.Typed.{TypedProgram}
+use Rattle.vcode_reader.specs.Trees.{Item}
 use Rattle.job_steps.specs.EventLaws.{IsVerified}
 use Rattle.job_steps.specs.LeastLimits.{cells_in, calls_in, most_until, most_cells, most_calls, AreEnough, with_limits}
 use Rattle.job_steps.specs.LeastLimits.{RunAlike, IsReturn, UsedAreLeast}
 use Rattle.job_steps.specs.Motions.{depth_after}
 use Rattle.job_steps.specs.Reached.{NeverStuck, Reaches, EachEnds, EndIsOwn}
 use Rattle.job_steps.specs.Runs.{progress_from, state_after, whole_run, outcome, executed_count, peak}
-use Rattle.job_steps.specs.States.{Vector, Task, Active, State, Callee, callee_named, calls_with}
-use Rattle.job_steps.specs.Steps.{Progress, Running, Over, Stuck}
-use Rattle.job_steps.specs.Steps.{words_at, is_call, memory_fault}
-use Rattle.job_steps.specs.Steps.{calls_past, calls_after}
-use Rattle.job_steps.specs.Steps.{progress_past, next_progress}
+use Rattle.job_steps.specs.States.{Vector, Task, Active, State}
+use Rattle.job_steps.specs.Steps.{Progress, Running, Over, Stuck, words_at, is_call, memory_fault, progress_past}
+use Rattle.job_steps.specs.Steps.{next_progress}
 use Rattle.job_steps.proofs.Bounds.{Fits, neither}
 use Rattle.job_steps.proofs.Progresses.{item_of, calls_then, Passes, IsNoReturn, Goes, Ends, Idles, Blocks, Executes}
 use Rattle.job_steps.proofs.Progresses.{goes}
@@ -67,8 +63,8 @@ record Executing (task : Task) (s : State) : Type 0 where
 no_return : (ending : Outcome (List Vector)) → IsNoReturn ending → IsReturn ending → ⊥
 no_return ending none (values, is) = subst IsNoReturn is none
 
-executing_by : NeverStuck → EndIsOwn → (task : Task) → Returns task → (n : ℕ) (s : State) →
-    (p : Progress) → state_after task (suc n) ≡ p → Goes task s p → Executing task s
+executing_by : NeverStuck → EndIsOwn → (task : Task) → Returns task → (n : ℕ) (s : State) → (p : Progress) →
+    state_after task (suc n) ≡ p → Goes task s p → Executing task s
 executing_by stuck own task r n s p next (Ends ending none is) =
     let same = own task (suc n) ending s.executed s.peak (next ∙ is) in
     absurd (no_return ending none (subst IsReturn same.0 r.is_return))
@@ -76,8 +72,7 @@ executing_by stuck own task r n s p next (Idles none is) =
     absurd (stuck r.verified.0 task r.verified.1 (suc n) (next ∙ is))
 executing_by stuck own task r n s p next (Blocks call outer calls blocked is) =
     absurd (stuck r.verified.0 task r.verified.1 (suc n) (next ∙ is))
-executing_by stuck own task r n s p next (Executes call outer passes is) =
-    record { call = call; outer = outer; passes = passes }
+executing_by stuck own task r n s p next (Executes call outer passes is) = grind arith
 
 -- at each state in which it runs
 executing : NeverStuck → EndIsOwn → (task : Task) → Returns task → (n : ℕ) (s : State) →
@@ -93,30 +88,19 @@ HasCounted x m (Running s) = (x ≤ s.executed) × (m ≤ s.peak)
 HasCounted x m (Over ending y p) = (x ≤ y) × (m ≤ p)
 HasCounted x m Stuck = Unit {0}
 
-counted_past : (rule : _) (x m : ℕ) (s : State) (item : Item) (calls : List Active) →
-    x ≤ s.executed + 1 → m ≤ max s.peak (words_at rule item s) → HasCounted x m (progress_past rule item s calls)
-counted_past rule x m s item [] h k = (h, k)
-counted_past rule x m s item (call ∷ outer) h k = (h, k)
+counted_past : (rule : _) (x m : ℕ) (s : State) (item : Item) (calls : List Active) → x ≤ s.executed + 1 →
+    m ≤ max s.peak (words_at rule item s) → HasCounted x m (progress_past rule item s calls)
+counted_past rule x m s item calls h k = grind arith
 
 more : (a b w : ℕ) → a ≤ b → a ≤ max b w
 more a b w h = omega (arith, h, le-max_left b w)
 
-counted_by : (task : Task) (x m : ℕ) (s : State) (p : Progress) → x ≤ s.executed → m ≤ s.peak → Goes task s p →
-    HasCounted x m p
-counted_by task x m s p h k (Ends ending early is) = subst (HasCounted x m) (sym is) (h, k)
-counted_by task x m s p h k (Idles none is) = subst (HasCounted x m) (sym is) tt
-counted_by task x m s p h k (Blocks call outer calls blocked is) = subst (HasCounted x m) (sym is) tt
-counted_by task x m s p h k (Executes call outer passes is) = grind arith
-
 counted_from : (task : Task) (x m : ℕ) (p : Progress) → HasCounted x m p → HasCounted x m (progress_from task p)
-counted_from task x m (Running s) h = counted_by task x m s (next_progress task s) h.0 h.1 (goes task s)
-counted_from task x m (Over ending y p) h = h
-counted_from task x m Stuck h = tt
+counted_from task x m p h = grind (arith, HasCounted, goes)
 
 counted_later : (task : Task) (x m n : ℕ) → HasCounted x m (state_after task n) → (k : ℕ) →
     HasCounted x m (state_after task (n + k))
-counted_later task x m n h zero =
-    let same : n ≡ n + 0 = omega arith in subst (λ i. HasCounted x m (state_after task i)) same h
+counted_later task x m n h zero = grind (arith, HasCounted)
 counted_later task x m n h (suc k) =
     let same : suc (n + k) ≡ n + suc k = omega arith in
     subst (λ i. HasCounted x m (state_after task i)) same
@@ -128,16 +112,14 @@ counted_whole : EachEnds → (task : Task) → IsVerified task → (x m n : ℕ)
 unfolding whole_run
 counted_whole ends task v x m n h counted =
     let same : n + ((task.limits.budget + 1) - n) ≡ task.limits.budget + 1 = omega arith in
-    let whole : HasCounted x m (whole_run task) =
-    subst (λ i. HasCounted x m (state_after task i)) same
+    let whole : HasCounted x m (whole_run task) = subst (λ i. HasCounted x m (state_after task i)) same
     (counted_later task x m n counted ((task.limits.budget + 1) - n)) in
     subst (HasCounted x m) (ends v.0 task v.1).over whole
 
 -- ---- the most of a number
 
 most_here : (f : Progress → ℕ) (task : Task) (n : ℕ) → f (state_after task n) ≤ most_until f task n
-most_here f task zero = omega arith
-most_here f task (suc n) = le-max_right (most_until f task n) (f (state_after task (suc n)))
+most_here f task n = grind (arith, le-max_right)
 
 most_later : (f : Progress → ℕ) (task : Task) (n k : ℕ) → f (state_after task n) ≤ most_until f task (n + k)
 most_later f task n zero = grind (arith, most_here)
@@ -167,38 +149,12 @@ most_same f old new same (suc n) = (λ i. max (most_same f old new same n i) (f 
 none : {T : Type 0} (x : T) (xs : List T) → x ∷ xs ≡ [] → ⊥
 none x xs e = cc
 
-called_some : (o : Option Callee) (calls : List Active) → calls_with o calls ≡ [] → calls ≡ []
-called_some None calls e = e
-called_some (Some callee) calls e = absurd (none _ calls e)
-
--- only a return leaves no call
-flat_past : (verified : TypedProgram) (item : Item) (call : Active) (outer : List Active) (depth : ℕ) →
-    calls_past verified item call outer ≡ [] → depth_after (op_of item) depth ≤ depth
-flat_past verified (Const k list) call outer depth e = absurd (none call outer e)
-flat_past verified (Elementwise x) call outer depth e = absurd (none call outer e)
-flat_past verified (Segmented x) call outer depth e = absurd (none call outer e)
-flat_past verified If call outer depth e = absurd (none call outer e)
-flat_past verified (Move motion lower upper) call outer depth e = absurd (none call outer e)
-flat_past verified (Call name) call outer depth e =
-    absurd (none call outer (called_some (callee_named verified name) (call ∷ outer) e))
-flat_past verified Return call outer depth e = omega arith
-
-flat_after : (verified : TypedProgram) (flag : Bool) (body : Body) (ret : ℕ) (outer : List Active) (depth : ℕ) →
-    calls_after verified flag body ret outer ≡ [] →
-    depth_after (op_of (item_of (record { rest = body; ret = ret }))) depth ≤ depth
-flat_after verified flag End ret outer depth e = omega arith
-flat_after verified flag (Do item line rest) ret outer depth e =
-    flat_past verified item (record { rest = rest; ret = ret }) outer depth e
-flat_after verified flag (Choice line first second end rest) ret outer depth e = absurd (none _ outer e)
-
 cells_past : (task : Task) (s : State) (call : Active) (outer : List Active) → Passes task s call outer →
     (calls : List Active) → calls_then task s call outer ≡ calls → (most : ℕ) → length s.stack ≤ most →
     cells_in (progress_past task.rule (item_of call) s calls) ≤ most →
     depth_after (op_of (item_of call)) (length s.stack) ≤ most
-cells_past task s call outer p [] is most before after =
-    omega (arith, before, flat_after task.verified _ call.rest call.ret outer (length s.stack) is)
-cells_past task s call outer p (last ∷ others) is most before after =
-    grind (arith, item_of, length-stack_after, length-results, deep_of)
+cells_past task s call outer p calls is most before after =
+    grind (arith, none, item_of, length-stack_after, length-results, deep_of)
 
 calls_then_more : (task : Task) (s : State) (call : Active) (outer : List Active) → Passes task s call outer →
     is_call (op_of (item_of call)) ≡ true → calls_in (past task s call outer) ≡ length s.calls + 1
@@ -212,31 +168,27 @@ module _ (stuck : NeverStuck) (reaches : Reaches) (ends : EachEnds) (own : EndIs
     next : state_after task (suc n) ≡ past task s call outer
     next = ap (progress_from task) e ∙ passes_past task s call outer p
 
-    counted : (s.executed + 1 ≤ executed_count task)
-        × (max s.peak (words_at task.rule (item_of call) s) ≤ peak task)
+    counted : (s.executed + 1 ≤ executed_count task) × (max s.peak (words_at task.rule (item_of call) s) ≤ peak task)
     counted =
         let reached = reaches r.verified.0 task r.verified.1 n s e in
         counted_whole ends task r.verified (s.executed + 1) (max s.peak (words_at task.rule (item_of call) s)) (suc n)
-        (omega (arith, reached.budget))
-        (subst (HasCounted (s.executed + 1) (max s.peak (words_at task.rule (item_of call) s))) (sym next)
+        (omega (arith, reached.budget)) (subst
+        (HasCounted (s.executed + 1) (max s.peak (words_at task.rule (item_of call) s))) (sym next)
         (counted_past task.rule _ _ s (item_of call) (calls_then task s call outer) (omega arith) (omega arith)))
 
     within_count : suc n ≤ executed_count task
     within_count = omega (arith, (reaches r.verified.0 task r.verified.1 n s e).count, counted.0)
 
     most_before : (f : Progress → ℕ) → f (Running s) ≤ most_until f task (executed_count task)
-    most_before f =
-        subst (λ q. f q ≤ most_until f task (executed_count task)) e
-        (most_reached f task n (executed_count task) (omega (arith, within_count)))
+    most_before f = grind (arith, most_reached, within_count)
 
     most_after : (f : Progress → ℕ) → f (past task s call outer) ≤ most_until f task (executed_count task)
     most_after f =
         subst (λ q. f q ≤ most_until f task (executed_count task)) next
         (most_reached f task (suc n) (executed_count task) within_count)
 
-    fits_within : (limits : Limits) → AreEnough task limits →
-        Fits limits (op_of (item_of call)) (words_at task.rule (item_of call) s)
-        (depth_after (op_of (item_of call)) (length s.stack)) (length s.calls)
+    fits_within : (limits : Limits) → AreEnough task limits → Fits limits (op_of (item_of call))
+        (words_at task.rule (item_of call) s) (depth_after (op_of (item_of call)) (length s.stack)) (length s.calls)
     unfolding most_cells most_calls
     fits_within limits enough = record {
       words_fit = omega (arith, le-max_right s.peak (words_at task.rule (item_of call) s), counted.1, enough.words);
@@ -264,46 +216,21 @@ module _ (stuck : NeverStuck) (reaches : Reaches) (ends : EachEnds) (own : EndIs
 
   -- ---- runs that are alike
 
-  same_from : (old new : Task) (p : Progress) →
-      ((s : State) → p ≡ Running s → next_progress new s ≡ next_progress old s) →
-      progress_from new p ≡ progress_from old p
-  same_from old new (Running s) step = step s refl
-  same_from old new (Over ending x m) step = refl
-  same_from old new Stuck step = refl
-
-  same_states : (task : Task) (limits : Limits) →
-      ((n : ℕ) (s : State) → state_after task n ≡ Running s → state_after (with_limits limits task) n ≡ Running s →
-      next_progress (with_limits limits task) s ≡ next_progress task s) →
-      (n : ℕ) → state_after (with_limits limits task) n ≡ state_after task n
+  same_states : (task : Task) (limits : Limits) → ((n : ℕ) (s : State) → state_after task n ≡ Running s →
+      state_after (with_limits limits task) n ≡ Running s → next_progress (with_limits limits task) s ≡ next_progress
+      task s) → (n : ℕ) → state_after (with_limits limits task) n ≡ state_after task n
   same_states task limits step zero = refl
-  same_states task limits step (suc n) =
-      let before = same_states task limits step n in
-      ap (progress_from (with_limits limits task)) before
-      ∙ same_from task (with_limits limits task) (state_after task n) (λ s e. step n s e (before ∙ e))
+  same_states task limits step (suc n) = grind (arith, (same_states task limits step n))
 
   alike_by : (task : Task) → IsVerified task → (limits : Limits) →
-      ((n : ℕ) → state_after (with_limits limits task) n ≡ state_after task n) →
-      RunAlike task (with_limits limits task)
+      ((n : ℕ) → state_after (with_limits limits task) n ≡ state_after task n) → RunAlike task (with_limits limits task)
   unfolding whole_run most_cells most_calls
-  alike_by task v limits same =
-      let new = with_limits limits task in
-      let last = task.limits.budget + 1 in
-      let is = own new last (outcome task) (executed_count task) (peak task)
-      (same last ∙ (ends v.0 task v.1).over) in
-      record {
-        states = same;
-        outcome_is = is.0;
-        executed_is = is.1;
-        peak_is = is.2;
-        cells_are = ap (most_until cells_in new) is.1 ∙ most_same cells_in task new same (executed_count task);
-        calls_are = ap (most_until calls_in new) is.1 ∙ most_same calls_in task new same (executed_count task);
-      }
+  alike_by task v limits same = grind (arith, most_same)
 
   enough_alike : (task : Task) → Returns task → (limits : Limits) → AreEnough task limits →
       RunAlike task (with_limits limits task)
   enough_alike task r limits enough =
-      alike_by task r.verified limits
-      (same_states task limits (λ n s e _. same_step task r limits enough n s e))
+      alike_by task r.verified limits (same_states task limits (λ n s e _. same_step task r limits enough n s e))
 
   -- ---- limits within which the job returns
 
@@ -319,8 +246,8 @@ module _ (stuck : NeverStuck) (reaches : Reaches) (ends : EachEnds) (own : EndIs
       let x = executing stuck own task r n s e in
       let y = executing stuck own new w n s f in
       let same : y.call ∷ y.outer ≡ x.call ∷ x.outer = sym y.passes.calls ∙ x.passes.calls in
-      passes_past new s y.call y.outer y.passes
-      ∙ (ap (past_in task s) same ∙ sym (passes_past task s x.call x.outer x.passes))
+      passes_past new s y.call y.outer y.passes ∙
+      (ap (past_in task s) same ∙ sym (passes_past task s x.call x.outer x.passes))
 
   cells_by : (task : Task) → IsVerified task → (n : ℕ) (p : Progress) → state_after task n ≡ p →
       cells_in p ≤ task.limits.cells
@@ -336,14 +263,7 @@ module _ (stuck : NeverStuck) (reaches : Reaches) (ends : EachEnds) (own : EndIs
 
   uses_within : (task : Task) → IsVerified task → AreEnough task task.limits
   unfolding most_cells most_calls
-  uses_within task v = record {
-    words = (ends v.0 task v.1).words;
-    cells = most_within cells_in task task.limits.cells (λ n. cells_by task v n (state_after task n) refl)
-        (executed_count task);
-    calls = most_within calls_in task task.limits.calls (λ n. calls_by task v n (state_after task n) refl)
-        (executed_count task);
-    budget = (ends v.0 task v.1).budget;
-  }
+  uses_within task v = grind (arith, most_within, cells_by, calls_by)
 
   returning_enough : (task : Task) → Returns task → (limits : Limits) → IsReturn (outcome (with_limits limits task)) →
       AreEnough task limits

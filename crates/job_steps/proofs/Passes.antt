@@ -1,15 +1,12 @@
 -- Who is passed by, and how often.
-use Rattle.std.proofs.Common.{arith}
-use Rattle.std.proofs.Common.{◌≡◌, ◌≢◌, ℕ, zero, suc, List, [], ◌∷◌, ◌⊎◌, inl, inr, length, Some, refl}
-use Rattle.std.proofs.Common.{sym, ◌∙◌, ap, subst}
+use Rattle.std.proofs.Common.{arith, ◌≡◌, ◌≢◌, ℕ, suc, List, [], ◌∷◌, ◌⊎◌, inl, inr, length, Some, refl, ◌∙◌, ap}
 use Rattle.std.proofs.lemmas.Bool.{cases_eq}
 use Rattle.job_steps.specs.declared.event.Event.{Event}
-use Rattle.job_steps.specs.declared.event.Event.TheVariants.{Admit, Begin, Finish, Recall, Collect}
+use Rattle.job_steps.specs.declared.event.Event.TheVariants.{Admit}
 use Rattle.job_steps.specs.Events.{job_of, passes_after, after_event, after_events}
-use Rattle.job_steps.specs.Standings.{Standing, Waiting, Live, Queue, AreFew, of_job, admission}
-use Rattle.job_steps.specs.Standings.{passes_before}
+use Rattle.job_steps.specs.Standings.{Standing, Waiting, Live, Queue, AreFew, of_job, admission, passes_before}
 use Rattle.job_steps.specs.States.{Task}
-use Rattle.job_steps.proofs.Happenings.{changes, never_waits, Opens, Happens, Passed, Opened, happens, changes_its_job}
+use Rattle.job_steps.proofs.Happenings.{changes, Opens, Happens, Passed, Opened, happens, changes_its_job}
 use Rattle.job_steps.proofs.Standings.{admitted_has_room, of_with, of_with_other, passes_length, not_passed}
 use Rattle.job_steps.proofs.Standings.{admitted_few}
 
@@ -17,24 +14,15 @@ use Rattle.job_steps.proofs.Standings.{admitted_few}
 pass_nobody : (region : ℕ) (tasks : List Task) (event : Event) (queue : Queue) →
     ((job : ℕ) → passes_after event job queue ≡ queue.passes) → Happens region tasks event queue →
     (after_event region tasks event queue).passes ≡ queue.passes
-pass_nobody region tasks event queue same (Passed closed after) = ap (λ (q : Queue). q.passes) after
-pass_nobody region tasks event queue same (Opened can o) = o.passes ∙ same o.job
+pass_nobody region tasks event queue same h5 = grind arith
 
 pub others_pass_nobody : (region : ℕ) (tasks : List Task) (event : Event) (queue : Queue) → event ≢ Admit →
     (after_event region tasks event queue).passes ≡ queue.passes
-others_pass_nobody region tasks Admit queue other = absurd (other refl)
-others_pass_nobody region tasks (Begin k) queue other =
-    pass_nobody region tasks (Begin k) queue (λ job. refl) (happens region tasks (Begin k) queue)
-others_pass_nobody region tasks (Finish k) queue other =
-    pass_nobody region tasks (Finish k) queue (λ job. refl) (happens region tasks (Finish k) queue)
-others_pass_nobody region tasks (Recall k) queue other =
-    pass_nobody region tasks (Recall k) queue (λ job. refl) (happens region tasks (Recall k) queue)
-others_pass_nobody region tasks (Collect k) queue other =
-    pass_nobody region tasks (Collect k) queue (λ job. refl) (happens region tasks (Collect k) queue)
+others_pass_nobody region tasks event queue other = grind (arith, pass_nobody, happens)
 
 pub admissions_pass_once : (region : ℕ) (tasks : List Task) (queue : Queue) (place : ℕ) →
-    admission region tasks queue ≡ Some (suc place) →
-    (after_event region tasks Admit queue).passes ≡ passes_before place queue.standings queue.passes
+    admission region tasks queue ≡ Some (suc place) → (after_event region tasks Admit queue).passes ≡ passes_before
+    place queue.standings queue.passes
 admissions_pass_once region tasks queue place e =
     let h = admitted_has_room region tasks queue (suc place) e in
     let c = changes_its_job region tasks Admit queue (suc place) h.task Waiting e h.task_is h.waits in
@@ -45,28 +33,19 @@ admissions_pass_once region tasks queue place e =
 -- what is so of the passes before an event, and of those that an admission makes, is so of those after the event
 passes_by : (P : List ℕ → Type 0) (region : ℕ) (tasks : List Task) (event : Event) (queue : Queue) (job : ℕ) →
     P queue.passes → ((place : ℕ) → admission region tasks queue ≡ Some (suc place) →
-    P (passes_before place queue.standings queue.passes)) →
-    job_of region tasks event queue ≡ Some job → P (passes_after event job queue)
-passes_by P region tasks Admit queue zero before later e = before
-passes_by P region tasks Admit queue (suc place) before later e = later place e
-passes_by P region tasks (Begin k) queue job before later e = before
-passes_by P region tasks (Finish k) queue job before later e = before
-passes_by P region tasks (Recall k) queue job before later e = before
-passes_by P region tasks (Collect k) queue job before later e = before
+    P (passes_before place queue.standings queue.passes)) → job_of region tasks event queue ≡ Some job →
+    P (passes_after event job queue)
+passes_by P region tasks event queue job before later e = grind arith
 
 passes_in : (P : List ℕ → Type 0) (region : ℕ) (tasks : List Task) (event : Event) (queue : Queue) → P queue.passes →
     ((place : ℕ) → admission region tasks queue ≡ Some (suc place) →
-    P (passes_before place queue.standings queue.passes)) →
-    Happens region tasks event queue → P (after_event region tasks event queue).passes
-passes_in P region tasks event queue before later (Passed closed after) =
-    subst P (ap (λ (q : Queue). q.passes) (sym after)) before
-passes_in P region tasks event queue before later (Opened can o) =
-    subst P (sym o.passes) (passes_by P region tasks event queue o.job before later o.job_is)
+    P (passes_before place queue.standings queue.passes)) → Happens region tasks event queue →
+    P (after_event region tasks event queue).passes
+passes_in P region tasks event queue before later h7 = grind (arith, passes_by)
 
 by_passes : (P : List ℕ → Type 0) (region : ℕ) (tasks : List Task) (event : Event) (queue : Queue) → P queue.passes →
     ((place : ℕ) → admission region tasks queue ≡ Some (suc place) →
-    P (passes_before place queue.standings queue.passes)) →
-    P (after_event region tasks event queue).passes
+    P (passes_before place queue.standings queue.passes)) → P (after_event region tasks event queue).passes
 by_passes P region tasks event queue before later =
     passes_in P region tasks event queue before later (happens region tasks event queue)
 
@@ -98,7 +77,7 @@ record Moved (region : ℕ) (tasks : List Task) (event : Event) (queue : Queue) 
 moved_open : (region : ℕ) (tasks : List Task) (event : Event) (queue : Queue) (job : ℕ) (s : Standing) →
     of_job job queue.standings ≡ Some s → (s ≡ Waiting → ⊥) → (o : Opens region tasks event queue) →
     (o.job ≡ job) ⊎ (o.job ≡ job → ⊥) → Moved region tasks event queue job
-moved_open region tasks event queue job s e moved o (inl same) = grind (arith, of_with, never_waits, changes)
+moved_open region tasks event queue job s e moved o (inl same) = grind (arith, of_with, changes)
 moved_open region tasks event queue job s e moved o (inr apart) = record {
   standing = s;
   standing_is = ap (of_job job) o.after ∙ (of_with_other o.job job queue.standings o.new apart ∙ e);
@@ -108,22 +87,18 @@ moved_open region tasks event queue job s e moved o (inr apart) = record {
 moved_by : (region : ℕ) (tasks : List Task) (event : Event) (queue : Queue) (job : ℕ) (s : Standing) →
     of_job job queue.standings ≡ Some s → (s ≡ Waiting → ⊥) → Happens region tasks event queue →
     Moved region tasks event queue job
-moved_by region tasks event queue job s e moved (Passed closed after) = record {
-  standing = s;
-  standing_is = ap (λ (q : Queue). of_job job q.standings) after ∙ e;
-  moved = moved;
-}
+moved_by region tasks event queue job s e moved (Passed closed after) =
+    record { standing = s; standing_is = ap (λ (q : Queue). of_job job q.standings) after ∙ e; moved = moved }
 moved_by region tasks event queue job s e moved (Opened can o) =
     moved_open region tasks event queue job s e moved o (cases_eq o.job job)
 
 stay_before : (place : ℕ) (queue : Queue) (job : ℕ) (s : Standing) → of_job job queue.standings ≡ Some s →
     (s ≡ Waiting → ⊥) → of_job job (passes_before place queue.standings queue.passes) ≡ of_job job queue.passes
-stay_before place queue zero s e moved = refl
-stay_before place queue (suc i) s e moved = not_passed place queue.standings queue.passes i s e moved
+stay_before place queue job s e moved = grind (arith, not_passed)
 
 pub passes_stay : (region : ℕ) (tasks : List Task) (events : List Event) (queue : Queue) (job : ℕ) (s : Standing) →
-    of_job job queue.standings ≡ Some s → s ≢ Waiting →
-    of_job job (after_events region tasks events queue).passes ≡ of_job job queue.passes
+    of_job job queue.standings ≡ Some s → s ≢ Waiting → of_job job (after_events region tasks events queue).passes ≡
+    of_job job queue.passes
 passes_stay region tasks [] queue job s e moved = refl
 passes_stay region tasks (event ∷ events) queue job s e moved =
     let next = moved_by region tasks event queue job s e moved (happens region tasks event queue) in

@@ -1,14 +1,14 @@
 -- What the code passes over: what remains stays as it is.
-use Rattle.std.proofs.Common.{◌≡◌, ◌∙◌, ◌+◌, ◌<◌, ℕ, zero, suc, List, [], ◌∷◌, ◌++◌, drop, Some, refl, ap}
-use Rattle.std.proofs.Common.{sym, subst, arith, append_assoc}
+use Rattle.std.proofs.Common.{◌≡◌, ◌∙◌, ◌+◌, ◌<◌, ℕ, zero, suc, List, [], ◌∷◌, ◌++◌, drop, Some, refl, ap, sym, subst}
+use Rattle.std.proofs.Common.{arith, append_assoc}
 use Rattle.std.specs.Prelude.{slice_get}
 use Rattle.std.proofs.lemmas.List.{drop-drop}
 use Rattle.vcode_base.specs.declared.instr.Instr.TheVariants.{Return}
 use Rattle.vcode_reader.specs.declared.line.CodeItem.{CodeItem}
 use Rattle.vcode_reader.specs.declared.line.CodeItem.TheVariants as code_item
 use Rattle.vcode_reader.specs.Decode.{Tail, Waits, ForElse, ForIf, before, before_else, before_if, tail_of, then_body}
-use Rattle.vcode_reader.specs.Targets.{Jumps, first_of, others_of, jumps_before, jumps_from, target_in}
-use Rattle.vcode_reader.specs.Targets.{target_at, EachTargetIsFirst}
+use Rattle.vcode_reader.specs.Targets.{Jumps, first_of, jumps_before, jumps_from, target_in, target_at}
+use Rattle.vcode_reader.specs.Targets.{EachTargetIsFirst}
 use Rattle.vcode_reader.specs.Trees.{Item, Body, End, Do, Choice, CodeLine, Function, line_of, instruction_line}
 use Rattle.vcode_reader.specs.Trees.{body_lines, lines_of}
 use Rattle.job_steps.specs.Frames.{rest_behind, rest_of_tail, remaining}
@@ -32,8 +32,8 @@ then_assoc (Choice l x y e a) b c = ap (Choice l x y e) (then_assoc a b c)
 unfoldable pub then_tail : Body → Tail → Tail
 then_tail b t = record { body = then_body b t.body; waits = t.waits }
 
-regroup : (x y b rest : List CodeLine) (i m n : CodeLine) →
-    (i ∷ (x ++ (m ∷ (y ++ (n ∷ b))))) ++ rest ≡ i ∷ (x ++ (m ∷ (y ++ (n ∷ (b ++ rest)))))
+regroup : (x y b rest : List CodeLine) (i m n : CodeLine) → (i ∷ (x ++ (m ∷ (y ++ (n ∷ b))))) ++ rest ≡ i ∷
+    (x ++ (m ∷ (y ++ (n ∷ (b ++ rest)))))
 regroup x y b rest i m n = simp append_assoc
 
 choice : ℕ → Body → Body → ℕ → Body → List Waits → Tail
@@ -44,16 +44,11 @@ unfolding tail_of then_tail then_body choice
 tail_of_body End xs = refl
 tail_of_body (Do i l b) xs = ap (before (code_item.Do i) l) (tail_of_body b xs)
 tail_of_body (Choice l x y e b) xs =
-    ap tail_of
-    (regroup (body_lines x) (body_lines y) (body_lines b) xs (line_of code_item.If l) (line_of code_item.Else l)
-    (line_of code_item.Endif e))
-    ∙ (ap (before code_item.If l)
-    (tail_of_body x _
-    ∙ ap (then_tail x)
-    (ap (before code_item.Else l)
-    (tail_of_body y _ ∙ ap (then_tail y) (ap (before code_item.Endif e) (tail_of_body b xs)))))
-    ∙ (ap (λ z. choice l z (then_body y End) e (then_body b (tail_of xs).body) (tail_of xs).waits) (then_end x)
-    ∙ ap (λ z. choice l x z e (then_body b (tail_of xs).body) (tail_of xs).waits) (then_end y)))
+    ap tail_of (regroup (body_lines x) (body_lines y) (body_lines b) xs (line_of code_item.If l) (line_of code_item.Else
+    l) (line_of code_item.Endif e)) ∙ (ap (before code_item.If l) (tail_of_body x _ ∙ ap (then_tail x) (ap (before
+    code_item.Else l) (tail_of_body y _ ∙ ap (then_tail y) (ap (before code_item.Endif e) (tail_of_body b xs))))) ∙ (ap
+    (λ z. choice l z (then_body y End) e (then_body b (tail_of xs).body) (tail_of xs).waits) (then_end x) ∙ ap (λ z.
+    choice l x z e (then_body b (tail_of xs).body) (tail_of xs).waits) (then_end y)))
 
 waits_of_body : (b : Body) (xs : List CodeLine) → (tail_of (body_lines b ++ xs)).waits ≡ (tail_of xs).waits
 unfolding then_tail
@@ -82,8 +77,7 @@ Fits (x ∷ xs) = FitsBefore x.item (tail_of xs).waits × Fits xs
 
 fits_drop : (n : ℕ) (xs : List CodeLine) → Fits xs → Fits (drop n xs)
 fits_drop zero xs h = h
-fits_drop (suc n) [] h = h
-fits_drop (suc n) (x ∷ xs) h = fits_drop n xs h.1
+fits_drop (suc n) xs h = grind (arith, (fits_drop n))
 
 fits_body : (b : Body) (xs : List CodeLine) → Fits xs → Fits (body_lines b ++ xs)
 unfolding tail_of
@@ -98,10 +92,9 @@ fits_body (Choice l x y e b) xs h =
     let between : Fits (m ∷ (body_lines y ++ (n ∷ (body_lines b ++ xs)))) =
     (subst (FitsBefore code_item.Else) (sym for_else) tt, second) in
     let first = fits_body x _ between in
-    let for_if = waits_of_body x (m ∷ (body_lines y ++ (n ∷ (body_lines b ++ xs))))
-    ∙ ap (λ ws. (before_else (tail_of (body_lines y ++ (n ∷ (body_lines b ++ xs)))).body ws).waits) for_else in
-    subst Fits
-    (sym (regroup (body_lines x) (body_lines y) (body_lines b) xs (line_of code_item.If l) m n))
+    let for_if = waits_of_body x (m ∷ (body_lines y ++ (n ∷ (body_lines b ++ xs)))) ∙ ap
+    (λ ws. (before_else (tail_of (body_lines y ++ (n ∷ (body_lines b ++ xs)))).body ws).waits) for_else in
+    subst Fits (sym (regroup (body_lines x) (body_lines y) (body_lines b) xs (line_of code_item.If l) m n))
     (subst (FitsBefore code_item.If) (sym for_if) tt, first)
 
 fits : (f : Function) → Fits (lines_of f)
@@ -122,34 +115,14 @@ Agree whole p (ForIf s e r ∷ ws) (q ∷ qs) =
 sooner : (whole : List CodeLine) (p : ℕ) (ws : List Waits) (qs : List ℕ) → Agree whole (p + 1) ws qs →
     Agree whole p ws qs
 sooner whole p [] qs h = tt
-sooner whole p (w ∷ ws) [] h = h
-sooner whole p (ForElse e r ∷ ws) (q ∷ qs) h = (omega (arith, h.0), h.1, sooner whole p ws qs h.2)
-sooner whole p (ForIf s e r ∷ ws) (q ∷ qs) h = (omega (arith, h.0), h.1, sooner whole p ws qs h.2)
-
-agree_if : (whole : List CodeLine) (p l : ℕ) (b : Body) (ws : List Waits) (qs : List ℕ) →
-    FitsBefore code_item.If ws → Agree whole p ws qs → Agree whole p (before_if l b ws).waits (others_of qs)
-agree_if whole p l b [] qs fit h = absurd fit
-agree_if whole p l b (ForElse e r ∷ ws) qs fit h = absurd fit
-agree_if whole p l b (ForIf s e r ∷ ws) [] fit h = absurd h
-agree_if whole p l b (ForIf s e r ∷ ws) (q ∷ qs) fit h = h.2
-
-agree_else : (whole : List CodeLine) (p : ℕ) (b : Body) (ws : List Waits) (qs : List ℕ) →
-    FitsBefore code_item.Else ws → tail_of (drop (p + 1) whole) ≡ record { body = b; waits = ws } →
-    Agree whole p ws qs → Agree whole p (before_else b ws).waits ((p + 1) ∷ others_of qs)
-agree_else whole p b [] qs fit at h = absurd fit
-agree_else whole p b (ForIf s e r ∷ ws) qs fit at h = absurd fit
-agree_else whole p b (ForElse e r ∷ ws) [] fit at h = absurd h
-agree_else whole p b (ForElse e r ∷ ws) (q ∷ qs) fit at h = (omega arith, at, h.2)
+sooner whole p (w ∷ ws) qs h = grind (arith, (sooner whole p ws))
 
 agree_before : (whole : List CodeLine) (p : ℕ) (i : CodeItem Item) (l : ℕ) (t : Tail) (j : Jumps) →
     FitsBefore i t.waits → tail_of (drop (p + 1) whole) ≡ t → Agree whole p t.waits j.waits →
     Agree whole p (before i l t).waits (jumps_before i p j).waits
-agree_before whole p (code_item.Do i) l t j fit at h = h
-agree_before whole p code_item.If l t j fit at h = agree_if whole p l t.body t.waits j.waits fit h
-agree_before whole p code_item.Else l t j fit at h = agree_else whole p t.body t.waits j.waits fit at h
-agree_before whole p code_item.Endif l t j fit at h = (omega arith, at, h)
+agree_before whole p i l t j fit at h = grind arith
 
-next_lines : (whole : List CodeLine) (p : ℕ) (x : CodeLine) (xs : List CodeLine) → drop p whole ≡ x ∷ xs →
+pub next_lines : (whole : List CodeLine) (p : ℕ) (x : CodeLine) (xs : List CodeLine) → drop p whole ≡ x ∷ xs →
     drop (p + 1) whole ≡ xs
 next_lines whole p x xs h = sym (drop-drop 1 p whole) ∙ ap (drop 1) h
 
@@ -157,10 +130,7 @@ agree : (whole : List CodeLine) (p : ℕ) (xs : List CodeLine) → drop p whole 
     Agree whole p (tail_of xs).waits (jumps_from p xs).waits
 unfolding tail_of jumps_from
 agree whole p [] at fit = tt
-agree whole p (x ∷ xs) at fit =
-    let on = next_lines whole p x xs at in
-    agree_before whole p x.item x.number (tail_of xs) (jumps_from (p + 1) xs) fit.0 (ap tail_of on)
-    (sooner whole p (tail_of xs).waits (jumps_from (p + 1) xs).waits (agree whole (p + 1) xs on fit.1))
+agree whole p (x ∷ xs) at fit = grind (arith, next_lines, agree_before, sooner, (agree whole (p + 1) xs))
 
 -- ---- what an ELSE and an IF go on with
 
@@ -190,14 +160,10 @@ unfolding then_body
 passes_by whole p l b [] qs fit h target here = absurd fit
 passes_by whole p l b (ForIf s e r ∷ ws) qs fit h target here = absurd fit
 passes_by whole p l b (ForElse e r ∷ ws) [] fit h target here = absurd h
-passes_by whole p l b (ForElse e r ∷ ws) (q ∷ qs) fit h target here = record {
-  next = q;
-  target = target;
-  later = h.0;
-  same = ap rest_of_tail h.1 ∙ sym here;
-}
+passes_by whole p l b (ForElse e r ∷ ws) (q ∷ qs) fit h target here =
+    record { next = q; target = target; later = h.0; same = ap rest_of_tail h.1 ∙ sym here }
 
-chooses_by : (whole : List CodeLine) (p l : ℕ) (b : Body) (ws : List Waits) (qs : List ℕ) →
+pub chooses_by : (whole : List CodeLine) (p l : ℕ) (b : Body) (ws : List Waits) (qs : List ℕ) →
     FitsBefore code_item.If ws → Agree whole p ws qs → (EachTargetIsFirst → target_at whole p ≡ first_of qs) →
     remaining (drop p whole) ≡ rest_of_tail (before_if l b ws) →
     remaining (drop (p + 1) whole) ≡ then_body b (rest_behind ws) → Chooses whole p l
@@ -252,8 +218,8 @@ module _ (f : Function) (p l : ℕ) (xs : List CodeLine) where
 
 -- ---- an instruction and an ENDIF
 
-pub remaining_do : (i : Item) (l : ℕ) (xs : List CodeLine) →
-    remaining (instruction_line i l ∷ xs) ≡ Do i l (remaining xs)
+pub remaining_do : (i : Item) (l : ℕ) (xs : List CodeLine) → remaining (instruction_line i l ∷ xs) ≡ Do i l
+    (remaining xs)
 unfolding tail_of then_body
 remaining_do i l xs = refl
 

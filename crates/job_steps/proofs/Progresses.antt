@@ -1,6 +1,5 @@
 -- What one instruction makes of a state: the ways in which it may go on.
-use Rattle.std.proofs.Common.{arith}
-use Rattle.std.proofs.Common.{◌≡◌, ℕ, Bool, true, false, cond, eqb, List, [], ◌∷◌, Option, Some, None, refl}
+use Rattle.std.proofs.Common.{arith, ◌≡◌, ℕ, Bool, true, false, cond, eqb, List, [], ◌∷◌, Option, Some, None, refl}
 use Rattle.vcode_base.specs.declared.fault.DataFault.{DataFault}
 use Rattle.vcode_base.specs.declared.fault.MemoryFault.{MemoryFault}
 use Rattle.vcode_base.specs.declared.outcome.Outcome.{Outcome}
@@ -47,15 +46,12 @@ pub data Goes (task : Task) (s : State) (p : Progress) : Type 0 where
 
 no_return : (line : ℕ) (a : Option DataFault) (b : Option MemoryFault) (e : Outcome (List Vector)) →
     ending_by line a b ≡ Some e → IsNoReturn e
-no_return line a b (Returned values) h = grind arith
-no_return line a b (Fault fault at) h = tt
-no_return line a b (Memory fault at) h = tt
-no_return line a b Budget h = tt
+no_return line a b e h = grind arith
 
 by_values : (task : Task) (s : State) (call : Active) (outer : List Active) → s.calls ≡ call ∷ outer →
-    eqb s.executed task.limits.budget ≡ false →
-    can_run task.verified (item_of call) s.stack ≡ true → early_ending task (next_item call) s ≡ None →
-    (o : Option DataFault) → value_fault (op_of (item_of call)) (sources_of (item_of call) s.stack) ≡ o →
+    eqb s.executed task.limits.budget ≡ false → can_run task.verified (item_of call) s.stack ≡ true →
+    early_ending task (next_item call) s ≡ None → (o : Option DataFault) →
+    value_fault (op_of (item_of call)) (sources_of (item_of call) s.stack) ≡ o →
     Goes task s (progress_by task.rule o (next_item call) s (calls_then task s call outer))
 by_values task s call outer calls unspent runs early (Some fault) is =
     Ends (Fault fault (next_item call).number) tt refl
@@ -63,18 +59,15 @@ by_values task s call outer calls unspent runs early None is =
     Executes call outer (record { calls = calls; unspent = unspent; runs = runs; early = early; late = is }) refl
 
 by_ending : (task : Task) (s : State) (call : Active) (outer : List Active) → s.calls ≡ call ∷ outer →
-    eqb s.executed task.limits.budget ≡ false →
-    can_run task.verified (item_of call) s.stack ≡ true → (o : Option (Outcome (List Vector))) →
-    early_ending task (next_item call) s ≡ o →
-    Goes task s (progress_unless o s
-    (progress_by task.rule (value_fault (op_of (item_of call)) (sources_of (item_of call) s.stack)) (next_item call) s
-    (calls_then task s call outer)))
+    eqb s.executed task.limits.budget ≡ false → can_run task.verified (item_of call) s.stack ≡ true →
+    (o : Option (Outcome (List Vector))) → early_ending task (next_item call) s ≡ o →
+    Goes task s (progress_unless o s (progress_by task.rule (value_fault (op_of (item_of call))
+    (sources_of (item_of call) s.stack)) (next_item call) s (calls_then task s call outer)))
 by_ending task s call outer calls unspent runs (Some ending) is = Ends ending (no_return _ _ _ ending is) refl
 by_ending task s call outer calls unspent runs None is = by_values task s call outer calls unspent runs is _ refl
 
 by_run : (task : Task) (s : State) (call : Active) (outer : List Active) → s.calls ≡ call ∷ outer →
-    eqb s.executed task.limits.budget ≡ false →
-    (b : Bool) → can_run task.verified (item_of call) s.stack ≡ b →
+    eqb s.executed task.limits.budget ≡ false → (b : Bool) → can_run task.verified (item_of call) s.stack ≡ b →
     Goes task s (cond b (progress_unless (early_ending task (next_item call) s) s
     (progress_by task.rule (value_fault (op_of (item_of call)) (sources_of (item_of call) s.stack)) (next_item call) s
     (calls_then task s call outer))) Stuck)

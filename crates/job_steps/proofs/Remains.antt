@@ -1,5 +1,5 @@
 -- What remains of code, line by line.
-use Rattle.std.proofs.Common.{◌≡◌, ◌∙◌, ℕ, List, ◌∷◌, ◌++◌, ap}
+use Rattle.std.proofs.Common.{arith, ◌≡◌, ℕ, List, ◌∷◌, ◌++◌, ap}
 use Rattle.vcode_reader.specs.declared.line.CodeItem.TheVariants as code_item
 use Rattle.vcode_reader.specs.Decode.{Tail, ForElse, ForIf, before, tail_of, then_body}
 use Rattle.vcode_reader.specs.Trees.{Body, Choice, CodeLine, line_of, body_lines}
@@ -12,47 +12,28 @@ module _ (first second : Body) (end : ℕ) (rest : List CodeLine) where
   tail : Tail
   tail = tail_of rest
 
-  before_endif : tail_of (body_lines second ++ line_of code_item.Endif end ∷ rest)
-      ≡ record { body = second; waits = ForElse end (tail_of rest).body ∷ (tail_of rest).waits }
+  before_endif : tail_of (body_lines second ++ line_of code_item.Endif end ∷ rest) ≡ record
+      { body = second; waits = ForElse end (tail_of rest).body ∷ (tail_of rest).waits }
   unfolding tail_of then_tail then_body
-  before_endif =
-      tail_of_body second (line_of code_item.Endif end ∷ rest)
-      ∙ ap (λ b. let t : Tail = record {
-        body = b;
-        waits = ForElse end (tail_of rest).body ∷
-            (tail_of rest).waits;
-      } in t)
-      (then_end second)
+  before_endif = grind (arith, tail_of_body, line_of, then_end)
 
-  before_else : (number : ℕ) →
-      tail_of (body_lines first
-      ++ line_of code_item.Else number ∷ (body_lines second ++ line_of code_item.Endif end ∷ rest))
-      ≡ record { body = first; waits = ForIf second end (tail_of rest).body ∷ (tail_of rest).waits }
+  before_else : (number : ℕ) → tail_of (body_lines first ++ line_of code_item.Else number ∷
+      (body_lines second ++ line_of code_item.Endif end ∷ rest)) ≡ record
+      { body = first; waits = ForIf second end (tail_of rest).body ∷ (tail_of rest).waits }
   unfolding tail_of then_tail then_body
-  before_else number =
-      tail_of_body first _
-      ∙ (ap (λ t. then_tail first (before code_item.Else number t)) before_endif
-      ∙ ap (λ b. let t : Tail = record { body = b; waits = ForIf second end (tail_of rest).body ∷ (tail_of rest).waits }
-      in t) (then_end first))
+  before_else number = grind (arith, tail_of_body, then_tail, before_endif, then_end)
 
-  remaining_else : (number : ℕ) →
-      remaining (line_of code_item.Else number ∷ (body_lines second ++ line_of code_item.Endif end ∷ rest))
-      ≡ remaining rest
+  remaining_else : (number : ℕ) → remaining (line_of code_item.Else number ∷
+      (body_lines second ++ line_of code_item.Endif end ∷ rest)) ≡ remaining rest
   unfolding tail_of then_body
   remaining_else number = ap (λ t. rest_of_tail (before code_item.Else number t)) before_endif
 
-  remaining_if : (line number : ℕ) →
-      remaining (line_of code_item.If line ∷ (body_lines first
-      ++ line_of code_item.Else number ∷ (body_lines second ++ line_of code_item.Endif end ∷ rest)))
-      ≡ Choice line first second end (remaining rest)
+  remaining_if : (line number : ℕ) → remaining (line_of code_item.If line ∷
+      (body_lines first ++ line_of code_item.Else number ∷ (body_lines second ++ line_of code_item.Endif end ∷ rest))) ≡
+      Choice line first second end (remaining rest)
   unfolding tail_of then_body
   remaining_if line number = ap (λ t. rest_of_tail (before code_item.If line t)) (before_else number)
 
 pub each_line_remains : EachLineRemains
-each_line_remains item line number end first second rest = record {
-  nothing = remaining_nothing;
-  instruction = remaining_do item line rest;
-  begins = remaining_if first second end rest line number;
-  passes = remaining_else first second end rest number;
-  leaves = remaining_endif end rest;
-}
+each_line_remains item line number end first second rest =
+    grind (arith, remaining_nothing, remaining_do, remaining_if, remaining_else, remaining_endif)

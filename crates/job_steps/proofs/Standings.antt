@@ -1,25 +1,15 @@
 -- Lists of jobs in which one job has another standing.
 use Rattle.std.proofs.Common.{◌≡◌, ℕ, zero, suc, ◌+◌, ◌<◌, ◌≤◌, Bool, true, false, ◌&&◌, List, [], ◌∷◌, length, map}
-use Rattle.std.proofs.Common.{set}
-use Rattle.std.proofs.Common.{slice_get, All, Option, Some, None, refl, sym, ◌∙◌, ap, subst, arith}
-use Rattle.std.proofs.Common.{length-set, cond}
+use Rattle.std.proofs.Common.{set, slice_get, All, Option, Some, None, refl, sym, ◌∙◌, ap, subst, arith, length-set}
+use Rattle.std.proofs.Common.{cond}
 use Rattle.std.proofs.lemmas.Bool.{and_parts, leb-true, leb-false, false≢true}
 use Rattle.std.proofs.lemmas.List.Elements.{All-nil, All-cons, All-head, All-tail}
-use Rattle.std.proofs.lemmas.List.{set_comm}
 use Rattle.std.proofs.lemmas.Option.{none-some, same_Some, slice_get_within, get_or_from_slice_get}
 use Rattle.vcode_base.specs.declared.limits.TheConstants.{MOST_PASSES}
 use Rattle.job_steps.specs.EventLaws.{HasRoom}
-use Rattle.job_steps.specs.Standings.{Standing, Waiting, Live, InFlight, Ended, Collected, Queue, of_job, with_standing}
-use Rattle.job_steps.specs.Standings.{
-  AreFew,
-  first_standings,
-  is_waiting,
-  sum_over,
-  granted_words,
-  has_room,
-  is_passed_enough,
-}
-use Rattle.job_steps.specs.Standings.{admission_from, admission, passed_once_more, passes_before}
+use Rattle.job_steps.specs.Standings.{Standing, Waiting, Queue, of_job, with_standing, AreFew, first_standings}
+use Rattle.job_steps.specs.Standings.{is_waiting, sum_over, granted_words, has_room, is_passed_enough, admission_from}
+use Rattle.job_steps.specs.Standings.{admission, passed_once_more, passes_before}
 use Rattle.job_steps.specs.States.{Task}
 
 -- ---- places
@@ -27,58 +17,34 @@ use Rattle.job_steps.specs.States.{Task}
 get-set_same : {X : Type 0} (xs : List X) (i : ℕ) (x y : X) → slice_get xs i ≡ Some x →
     slice_get (set xs i y) i ≡ Some y
 get-set_same [] i x y e = absurd (none-some x e)
-get-set_same (z ∷ xs) zero x y e = refl
-get-set_same (z ∷ xs) (suc i) x y e = get-set_same xs i x y e
+get-set_same (z ∷ xs) i x y e = grind (arith, (get-set_same xs))
 
-get-set_other : {X : Type 0} (xs : List X) (i j : ℕ) (y : X) → (i ≡ j → ⊥) →
-    slice_get (set xs i y) j ≡ slice_get xs j
+get-set_other : {X : Type 0} (xs : List X) (i j : ℕ) (y : X) → (i ≡ j → ⊥) → slice_get (set xs i y) j ≡ slice_get xs j
 get-set_other [] i j y ne = refl
-get-set_other (z ∷ xs) zero zero y ne = absurd (ne refl)
-get-set_other (z ∷ xs) zero (suc j) y ne = refl
-get-set_other (z ∷ xs) (suc i) zero y ne = refl
-get-set_other (z ∷ xs) (suc i) (suc j) y ne = get-set_other xs i j y (λ e. ne (ap suc e))
+get-set_other (z ∷ xs) i j y ne = grind (arith, (get-set_other xs))
 
-set_back : {X : Type 0} (xs : List X) (i : ℕ) (x y : X) → slice_get xs i ≡ Some x → set (set xs i y) i x ≡ xs
+pub set_back : {X : Type 0} (xs : List X) (i : ℕ) (x y : X) → slice_get xs i ≡ Some x → set (set xs i y) i x ≡ xs
 set_back [] i x y e = refl
-set_back (z ∷ xs) zero x y e = ap (λ k. k ∷ xs) (sym (same_Some z x e))
-set_back (z ∷ xs) (suc i) x y e = ap (λ zs. z ∷ zs) (set_back xs i x y e)
+set_back (z ∷ xs) i x y e = grind (arith, same_Some, (set_back xs))
 
 -- ---- jobs
 
 pub of_with : (job : ℕ) (standings : List Standing) (old new : Standing) → of_job job standings ≡ Some old →
     of_job job (with_standing job new standings) ≡ Some new
-of_with zero standings old new e = absurd (none-some old e)
-of_with (suc i) standings old new e = get-set_same standings i old new e
+of_with job standings old new e = grind (arith, none-some, get-set_same)
 
 pub of_with_other : (job other : ℕ) (standings : List Standing) (new : Standing) → (job ≡ other → ⊥) →
     of_job other (with_standing job new standings) ≡ of_job other standings
-of_with_other zero other standings new ne = refl
-of_with_other (suc i) zero standings new ne = refl
-of_with_other (suc i) (suc j) standings new ne = get-set_other standings i j new (λ e. ne (ap suc e))
-
-pub with_apart : (job other : ℕ) (standings : List Standing) (new late : Standing) → (job ≡ other → ⊥) →
-    with_standing other late (with_standing job new standings)
-    ≡ with_standing job new (with_standing other late standings)
-with_apart zero other standings new late ne = refl
-with_apart (suc i) zero standings new late ne = refl
-with_apart (suc i) (suc j) standings new late ne = set_comm standings i j new late (λ e. ne (ap suc e))
-
-pub with_back : (job : ℕ) (standings : List Standing) (old new : Standing) → of_job job standings ≡ Some old →
-    with_standing job old (with_standing job new standings) ≡ standings
-with_back zero standings old new e = refl
-with_back (suc i) standings old new e = set_back standings i old new e
+of_with_other job other standings new ne = grind (arith, get-set_other)
 
 pub with_length : (job : ℕ) (standings : List Standing) (new : Standing) →
     length (with_standing job new standings) ≡ length standings
-with_length zero standings new = refl
-with_length (suc i) standings new = length-set standings i new
+with_length job standings new = grind (arith, length-set)
 
 -- what holds of each task holds of that of a number
 pub all_of : (P : Task → Type 0) (tasks : List Task) → All P tasks → (job : ℕ) (task : Task) →
     of_job job tasks ≡ Some task → P task
-all_of P tasks each zero task e = absurd (none-some task e)
-all_of P tasks each (suc i) task e =
-    subst P (get_or_from_slice_get tasks i task task e) (each i task (slice_get_within tasks i task e))
+all_of P tasks each job task e = grind (arith, none-some, get_or_from_slice_get, slice_get_within)
 
 -- lists of one length have something at the same places
 pub beside_at : {X Y : Type 0} (xs : List X) (ys : List Y) → length ys ≡ length xs → (i : ℕ) (x : X) →
@@ -88,10 +54,10 @@ beside_at (z ∷ xs) [] same i x e = absurd (omega (arith, same))
 beside_at (z ∷ xs) (y ∷ ys) same zero x e = (y, refl)
 beside_at (z ∷ xs) (y ∷ ys) same (suc i) x e = beside_at xs ys (omega (arith, same)) i x e
 
-pub beside : (tasks : List Task) (standings : List Standing) → length standings ≡ length tasks → (job : ℕ)
-    (task : Task) → of_job job tasks ≡ Some task → (standing : Standing) × (of_job job standings ≡ Some standing)
-beside tasks standings same zero task e = absurd (none-some task e)
-beside tasks standings same (suc i) task e = beside_at tasks standings same i task e
+pub beside : (tasks : List Task) (standings : List Standing) → length standings ≡ length tasks →
+    (job : ℕ) (task : Task) → of_job job tasks ≡ Some task → (standing : Standing) ×
+    (of_job job standings ≡ Some standing)
+beside tasks standings same job task e = grind (arith, none-some, beside_at)
 
 pub first_waits : (tasks : List Task) (job : ℕ) (standing : Standing) →
     of_job job (first_standings tasks) ≡ Some standing → standing ≡ Waiting
@@ -106,8 +72,8 @@ first_waits tasks (suc i) standing e = first_at tasks i standing e
 
 -- the standing that was changed to this one
 pub of_mapped : (change : Standing → Standing) (standings : List Standing) (job : ℕ) (new : Standing) →
-    of_job job (map change standings) ≡ Some new →
-    (old : Standing) × (of_job job standings ≡ Some old) × (change old ≡ new)
+    of_job job (map change standings) ≡ Some new → (old : Standing) × (of_job job standings ≡ Some old) ×
+    (change old ≡ new)
 of_mapped change standings zero new e = absurd (none-some new e)
 of_mapped change standings (suc i) new e = mapped_at change standings i new e
   where
@@ -124,25 +90,20 @@ sum_set : (number : Task → Standing → ℕ) (tasks : List Task) (standings : 
     (old new : Standing) → slice_get tasks i ≡ Some task → slice_get standings i ≡ Some old →
     sum_over number tasks (set standings i new) + number task old ≡ sum_over number tasks standings + number task new
 sum_set number [] standings i task old new t e = absurd (none-some task t)
-sum_set number (k ∷ tasks) [] i task old new t e = absurd (none-some old e)
-sum_set number (k ∷ tasks) (s ∷ standings) zero task old new t e = grind arith
-sum_set number (k ∷ tasks) (s ∷ standings) (suc i) task old new t e =
-    let rest = sum_set number tasks standings i task old new t e in omega (arith, rest)
+sum_set number (k ∷ tasks) standings i task old new t e = grind (arith, none-some, (sum_set number tasks))
 
 pub sum_with : (number : Task → Standing → ℕ) (tasks : List Task) (standings : List Standing) (job : ℕ) (task : Task)
     (old new : Standing) → of_job job tasks ≡ Some task → of_job job standings ≡ Some old →
-    sum_over number tasks (with_standing job new standings) + number task old
-    ≡ sum_over number tasks standings + number task new
-sum_with number tasks standings zero task old new t e = absurd (none-some task t)
-sum_with number tasks standings (suc i) task old new t e = sum_set number tasks standings i task old new t e
+    sum_over number tasks (with_standing job new standings) + number task old ≡ sum_over number tasks standings + number
+    task new
+sum_with number tasks standings job task old new t e = grind (arith, none-some, sum_set)
 
 pub sum_mapped : (number : Task → Standing → ℕ) (change : Standing → Standing) →
-    ((task : Task) (s : Standing) → number task (change s) ≡ number task s) → (tasks : List Task)
-    (standings : List Standing) → sum_over number tasks (map change standings) ≡ sum_over number tasks standings
+    ((task : Task) (s : Standing) → number task (change s) ≡ number task s) →
+    (tasks : List Task) (standings : List Standing) → sum_over number tasks (map change standings) ≡ sum_over number
+    tasks standings
 sum_mapped number change same [] standings = refl
-sum_mapped number change same (t ∷ tasks) [] = refl
-sum_mapped number change same (t ∷ tasks) (s ∷ standings) =
-    omega (arith, same t s, sum_mapped number change same tasks standings)
+sum_mapped number change same (t ∷ tasks) standings = grind (arith, (sum_mapped number change same tasks))
 
 pub none_granted : (tasks : List Task) → granted_words tasks (first_standings tasks) ≡ 0
 none_granted [] = refl
@@ -151,19 +112,11 @@ none_granted (t ∷ tasks) = omega (arith, none_granted tasks)
 -- ---- admission
 
 waiting_is : (s : Standing) → is_waiting s ≡ true → s ≡ Waiting
-waiting_is Waiting e = refl
-waiting_is (Live n) e = absurd (false≢true e)
-waiting_is (InFlight n) e = absurd (false≢true e)
-waiting_is Ended e = absurd (false≢true e)
-waiting_is Collected e = absurd (false≢true e)
+waiting_is s e = grind (arith, false≢true)
 
 few_more : (s : Standing) (count : ℕ) → is_passed_enough s count ≡ false → count ≤ MOST_PASSES →
     passed_once_more s count ≤ MOST_PASSES
-few_more Waiting count e few = let below = leb-false MOST_PASSES count e in omega (arith, below)
-few_more (Live n) count e few = few
-few_more (InFlight n) count e few = few
-few_more Ended count e few = few
-few_more Collected count e few = few
+few_more s count e few = grind (arith, leb-false)
 
 -- each job that waits before this place doesn't fit, and was passed by fewer times than the most
 abbrev pub PassableBefore : (Task → Bool) → List Task → List Standing → List ℕ → ℕ → Type 0
@@ -202,16 +155,16 @@ next_here first fits t tasks s standings count passes job b e =
 -- one job more, which may be passed by
 passable_more : (fits : Task → Bool) (t : Task) (tasks : List Task) (s : Standing) (standings : List Standing)
     (count : ℕ) (passes : List ℕ) (place : ℕ) → (is_waiting s && fits t) ≡ false → is_passed_enough s count ≡ false →
-    PassableBefore fits tasks standings passes place →
-    PassableBefore fits (t ∷ tasks) (s ∷ standings) (count ∷ passes) (suc place)
+    PassableBefore fits tasks standings passes place → PassableBefore fits (t ∷ tasks) (s ∷ standings) (count ∷ passes)
+    (suc place)
 passable_more fits t tasks s standings count passes place b c before zero task less t_is w = grind arith
 passable_more fits t tasks s standings count passes place b c before (suc i) task less t_is w =
     before i task (omega (arith, less)) t_is w
 
 next_behind : (first : ℕ) (fits : Task → Bool) (t : Task) (tasks : List Task) (s : Standing) (standings : List Standing)
     (count : ℕ) (passes : List ℕ) (job : ℕ) → (is_waiting s && fits t) ≡ false → is_passed_enough s count ≡ false →
-    Found (suc first) fits tasks standings passes job →
-    Found first fits (t ∷ tasks) (s ∷ standings) (count ∷ passes) job
+    Found (suc first) fits tasks standings passes job → Found first fits (t ∷ tasks) (s ∷ standings) (count ∷ passes)
+    job
 next_behind first fits t tasks s standings count passes job b c n = record {
   place = suc n.place;
   task = n.task;
@@ -226,35 +179,25 @@ next_behind first fits t tasks s standings count passes job b c n = record {
 }
 
 next_at : (first : ℕ) (fits : Task → Bool) (t : Task) (tasks : List Task) (s : Standing) (standings : List Standing)
-    (count : ℕ) (passes : List ℕ) (job : ℕ) (b c : Bool) → (is_waiting s && fits t) ≡ b →
-    is_passed_enough s count ≡ c → (o : Option ℕ) → (o ≡ Some job
-    → Found (suc first) fits tasks standings passes job) →
-    cond b (Some first) (cond c None o) ≡ Some job →
-    Found first fits (t ∷ tasks) (s ∷ standings) (count ∷ passes) job
-next_at first fits t tasks s standings count passes job true c b_is c_is o rest e =
-    next_here first fits t tasks s standings count passes job b_is (same_Some first job e)
-next_at first fits t tasks s standings count passes job false true b_is c_is o rest e = absurd (none-some job e)
-next_at first fits t tasks s standings count passes job false false b_is c_is o rest e =
-    next_behind first fits t tasks s standings count passes job b_is c_is (rest e)
+    (count : ℕ) (passes : List ℕ) (job : ℕ) (b c : Bool) → (is_waiting s && fits t) ≡ b → is_passed_enough s count ≡ c →
+    (o : Option ℕ) → (o ≡ Some job → Found (suc first) fits tasks standings passes job) →
+    cond b (Some first) (cond c None o) ≡ Some job → Found first fits (t ∷ tasks) (s ∷ standings) (count ∷ passes) job
+next_at first fits t tasks s standings count passes job b c b_is c_is o rest e =
+    grind (arith, next_here, same_Some, none-some, next_behind)
 
-is_next : (first : ℕ) (fits : Task → Bool) (tasks : List Task) (standings : List Standing) (passes : List ℕ)
-    (job : ℕ) → admission_from first fits tasks standings passes ≡ Some job →
-    Found first fits tasks standings passes job
+is_next : (first : ℕ) (fits : Task → Bool) (tasks : List Task) (standings : List Standing) (passes : List ℕ) (job : ℕ) →
+    admission_from first fits tasks standings passes ≡ Some job → Found first fits tasks standings passes job
 is_next first fits [] standings passes job e = absurd (none-some job e)
 is_next first fits (t ∷ tasks) [] passes job e = absurd (none-some job e)
 is_next first fits (t ∷ tasks) (s ∷ standings) [] job e = absurd (none-some job e)
 is_next first fits (t ∷ tasks) (s ∷ standings) (count ∷ passes) job e =
-    next_at first fits t tasks s standings count passes job (is_waiting s && fits t)
-    (is_passed_enough s count) refl refl
-    (admission_from (suc first) fits tasks standings passes)
-    (λ h. is_next (suc first) fits tasks standings passes job h) e
+    grind (arith, next_at, (is_next (suc first) fits tasks standings passes job))
 
-pub admitted_next : (region : ℕ) (tasks : List Task) (queue : Queue) (job : ℕ)
-    → admission region tasks queue ≡ Some job →
-    Found 1 (has_room region (granted_words tasks queue.standings)) tasks queue.standings queue.passes job
+pub admitted_next : (region : ℕ) (tasks : List Task) (queue : Queue) (job : ℕ) →
+    admission region tasks queue ≡ Some job → Found 1 (has_room region (granted_words tasks queue.standings)) tasks
+    queue.standings queue.passes job
 unfolding admission
-admitted_next region tasks queue job e =
-    is_next 1 (has_room region (granted_words tasks queue.standings)) tasks queue.standings queue.passes job e
+admitted_next region tasks queue job e = grind (arith, is_next, has_room, region, tasks, job)
 
 pub admitted_has_room : (region : ℕ) (tasks : List Task) (queue : Queue) (job : ℕ) →
     admission region tasks queue ≡ Some job → HasRoom region tasks queue.standings job
@@ -299,30 +242,15 @@ admits region tasks queue o e = e
 pub passes_length : (place : ℕ) (standings : List Standing) (passes : List ℕ) →
     length (passes_before place standings passes) ≡ length passes
 passes_length zero standings passes = refl
-passes_length (suc place) [] passes = refl
-passes_length (suc place) (s ∷ standings) [] = refl
-passes_length (suc place) (s ∷ standings) (count ∷ passes) = omega (arith, passes_length place standings passes)
-
-not_once_more : (s : Standing) (count : ℕ) → (s ≡ Waiting → ⊥) → passed_once_more s count ≡ count
-not_once_more Waiting count moved = absurd (moved refl)
-not_once_more (Live n) count moved = refl
-not_once_more (InFlight n) count moved = refl
-not_once_more Ended count moved = refl
-not_once_more Collected count moved = refl
+passes_length (suc place) standings passes = grind (arith, (passes_length place))
 
 -- a job that doesn't wait isn't passed by
 pub not_passed : (place : ℕ) (standings : List Standing) (passes : List ℕ) (i : ℕ) (s : Standing) →
-    slice_get standings i ≡ Some s → (s ≡ Waiting → ⊥) →
-    slice_get (passes_before place standings passes) i ≡ slice_get passes i
+    slice_get standings i ≡ Some s → (s ≡ Waiting → ⊥) → slice_get (passes_before place standings passes) i ≡ slice_get
+    passes i
 not_passed zero standings passes i s e moved = refl
-not_passed (suc place) [] passes i s e moved = refl
-not_passed (suc place) (x ∷ standings) [] i s e moved = refl
-not_passed (suc place) (x ∷ standings) (count ∷ passes) zero s e moved =
-    ap (λ (k : ℕ). Some k) (not_once_more x count (λ w. moved (sym (same_Some x s e) ∙ w)))
-not_passed (suc place) (x ∷ standings) (count ∷ passes) (suc i) s e moved =
-    not_passed place standings passes i s e moved
+not_passed (suc place) standings passes i s e moved = grind (arith, same_Some, (not_passed place))
 
 pub none_passed : (tasks : List Task) → AreFew (map (λ (task : Task). 0) tasks)
 none_passed [] = All-nil (λ (k : ℕ). k ≤ MOST_PASSES)
-none_passed (t ∷ tasks) =
-    All-cons (λ (k : ℕ). k ≤ MOST_PASSES) 0 (map (λ (task : Task). 0) tasks) (omega arith) (none_passed tasks)
+none_passed (t ∷ tasks) = grind (arith, All-cons, (none_passed tasks))

@@ -1,13 +1,12 @@
 -- What a step may rest on if a track is at a state of a verified job.
-use Rattle.std.proofs.Common.{◌≡◌, ◌∙◌, ◌+◌, ◌<◌, ◌≤◌, ℕ, Bool, true, false, cond, eqb, List, [], ◌∷◌, length}
-use Rattle.std.proofs.Common.{Option, Some, None, refl, ap, sym, subst, arith}
+use Rattle.std.proofs.Common.{◌≡◌, ◌∙◌, ◌+◌, ◌<◌, ◌≤◌, ℕ, Bool, true, false, cond, eqb, List, [], ◌∷◌, length, Option}
+use Rattle.std.proofs.Common.{Some, None, refl, ap, sym, subst, arith}
 use Rattle.std.specs.Prelude.{All}
 use Rattle.std.proofs.lemmas.Bool.Decides.{nat_tests}
 use Rattle.std.proofs.lemmas.List.Elements.{All-nil, All-cons, All-map, All-take, All-weaker}
 use Rattle.std.proofs.lemmas.Option.{none-some}
 use Rattle.vcode_base.specs.declared.instr.Instr.TheVariants.{Const, Elementwise, Segmented, If, Move, Call, Return}
 use Rattle.vcode_base.specs.declared.limits.Limits.{Limits}
-use Rattle.vcode_base.specs.declared.op.Op.TheVariants as op
 use Rattle.vcode_base.specs.declared.outcome.Outcome.TheVariants.{Budget}
 use Rattle.vcode_base.specs.Instructions.{op_of}
 use Rattle.vcode_base.specs.Kinds.{HaveKinds, source_kinds}
@@ -18,7 +17,7 @@ use Rattle.verifier.specs.Kinded.{scope_of}
 use Rattle.job_steps.specs.Buffers.{HaveAtMost}
 use Rattle.job_steps.specs.Events.{early_end_in}
 use Rattle.job_steps.specs.Frames.{StandAll}
-use Rattle.job_steps.specs.Motions.{top_entries, operand_count, depth_after}
+use Rattle.job_steps.specs.Motions.{top_entries, depth_after}
 use Rattle.job_steps.specs.Questions.{need_words}
 use Rattle.job_steps.specs.Reached.{IsVerifiedTask, AreTyped, IsReached, Reaches, ValuesHaveKinds}
 use Rattle.job_steps.specs.StepLaws.{CanBegin, CanAdvance, StepsCanBegin, StepsCanAdvance}
@@ -34,8 +33,7 @@ use Rattle.job_steps.proofs.Typed.{runs_at}
 -- ---- the next instruction can run
 
 runs_next : (signatures : List Signature) (task : Task) (n : ℕ) (s : State) → IsVerifiedTask signatures task →
-    IsReached signatures task n s →
-    (call : Active) (outer : List Active) → s.calls ≡ call ∷ outer →
+    IsReached signatures task n s → (call : Active) (outer : List Active) → s.calls ≡ call ∷ outer →
     can_run task.verified (next_item call).item s.stack ≡ true
 runs_next signatures task n s v r call outer calls =
     let scope = scope_of signatures task.verified.program in
@@ -69,9 +67,7 @@ module _ {C : Type 0} (signatures : List Signature) (task : Task) (v : IsVerifie
       }
 
 pub steps_can_begin : Reaches → ValuesHaveKinds → (C : Type 0) → StepsCanBegin C
-steps_can_begin reaches have_kinds C signatures task v n s t e at =
-    let r = reaches signatures task v n s e in
-    begins signatures task v n s t at r (have_kinds signatures task v n s e).1 s.calls refl r.active
+steps_can_begin reaches have_kinds C signatures task v n s t e at = grind (arith, begins)
 
 -- ---- nothing ends the job
 
@@ -81,8 +77,7 @@ record IsUnspent (budget : ℕ) (s : State) (ending : Option Ending) : Type 0 wh
 
 unspent_by : (budget : ℕ) (s : State) (ending : Option Ending) (b : Bool) → eqb s.executed budget ≡ b →
     cond b (Some Budget) ending ≡ None → IsUnspent budget s ending
-unspent_by budget s ending true is none = absurd (none-some Budget (sym none))
-unspent_by budget s ending false is none = record { unspent = is; late = none }
+unspent_by budget s ending b is none = grind (arith, none-some)
 
 below : (count n budget : ℕ) → eqb count budget ≡ false → count ≡ n → n ≤ budget → count < budget
 below count n budget unspent is within = grind (arith, nat_tests, unspent, is, within)
@@ -100,20 +95,17 @@ tops_held : (count : ℕ) (stack : List StackEntry) (most : ℕ) → Agree stack
     HaveAtMost most (words_of (top_entries count stack))
 tops_held count stack most agree within =
     let short : StackEntry → Type 0 = λ e. length e.value.words ≤ most in
-    let each : All short stack =
-    All-weaker (λ e. length e.value.words ≤ held_words stack) short (λ e h. omega arith) stack (each_held stack agree)
-    in
+    let each : All short stack = All-weaker (λ e. length e.value.words ≤ held_words stack) short (λ e h. omega arith)
+    stack (each_held stack agree) in
     All-map (λ list. length list ≤ most) (λ (e : StackEntry). e.value.words) (top_entries count stack)
     (All-reverse short _ (All-take short count stack each))
 
-sources_held : (item : Item) (stack : List StackEntry) (most : ℕ) → Agree stack →
-    held_words stack ≤ most → need_words (question_of item stack) ≤ most → HaveAtMost most (sources_of item stack)
+sources_held : (item : Item) (stack : List StackEntry) (most : ℕ) → Agree stack → held_words stack ≤ most →
+    need_words (question_of item stack) ≤ most → HaveAtMost most (sources_of item stack)
 unfolding need
 sources_held (Const k list) stack most agree held needed = grind arith
-sources_held (Elementwise e) stack most agree held needed =
-    tops_held (operand_count (op.Elementwise e)) stack most agree held
-sources_held (Segmented e) stack most agree held needed =
-    tops_held (operand_count (op.Segmented e)) stack most agree held
+sources_held (Elementwise e) stack most agree held needed = grind (arith, tops_held)
+sources_held (Segmented e) stack most agree held needed = grind (arith, tops_held)
 sources_held If stack most agree held needed = tops_held 1 stack most agree held
 sources_held (Move motion lower upper) stack most agree held needed = tops_held 0 stack most agree held
 sources_held (Call name) stack most agree held needed = tops_held 0 stack most agree held
@@ -123,10 +115,9 @@ sources_held Return stack most agree held needed = tops_held 0 stack most agree 
 
 module _ {C : Type 0} (signatures : List Signature) (task : Task) (v : IsVerifiedTask signatures task) (n : ℕ)
     (s : State) (t : TrackState C) (at : IsAt task t s) (r : IsReached signatures task n s) where
-  advances : IsUnspent task.limits.budget s (early_end_in task s s.calls) →
-      (call : Active) (outer : List Active) → s.calls ≡ call ∷ outer →
-      HaveKinds (source_kinds (op_of (next_item call).item)) (sources_of (next_item call).item s.stack) →
-      CanAdvance task s t (next_item call).item
+  advances : IsUnspent task.limits.budget s (early_end_in task s s.calls) → (call : Active) (outer : List Active) →
+      s.calls ≡ call ∷ outer → HaveKinds (source_kinds (op_of (next_item call).item))
+      (sources_of (next_item call).item s.stack) → CanAdvance task s t (next_item call).item
   advances unspent call outer is kinds =
       let item = (next_item call).item in
       let runs = runs_next signatures task n s v r call outer is in
@@ -160,7 +151,6 @@ module _ {C : Type 0} (signatures : List Signature) (task : Task) (v : IsVerifie
 pub steps_can_advance : Reaches → ValuesHaveKinds → (C : Type 0) → StepsCanAdvance C
 steps_can_advance reaches have_kinds C signatures task v n s t e at early call outer is =
     let r = reaches signatures task v n s e in
-    let unspent = unspent_by task.limits.budget s (early_end_in task s s.calls) (eqb s.executed task.limits.budget)
-    refl early in
-    advances signatures task v n s t at r unspent call outer is
-    ((have_kinds signatures task v n s e).1 call outer is)
+    let unspent = unspent_by task.limits.budget s (early_end_in task s s.calls) (eqb s.executed task.limits.budget) refl
+    early in
+    advances signatures task v n s t at r unspent call outer is ((have_kinds signatures task v n s e).1 call outer is)

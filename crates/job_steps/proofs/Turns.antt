@@ -1,14 +1,13 @@
 -- Lists that are kept backwards.
 use Rattle.std.proofs.Common.{◌≡◌, ℕ, ◌+◌, ◌-◌, ◌<◌, ◌≤◌, List, [], ◌∷◌, ◌++◌, length, take, drop, refl, sym, ◌∙◌, ap}
-use Rattle.std.proofs.Common.{suc}
-use Rattle.std.proofs.Common.{arith, append_assoc, drop-drop, length-drop, length-take-le, slice_set}
+use Rattle.std.proofs.Common.{suc, arith, append_assoc, drop-drop, length-drop, length-take-le, slice_set}
 use Rattle.std.specs.Prelude.{reverse}
 use Rattle.std.proofs.lemmas.List.{reverse-append, reverse-reverse, length-reverse, take-append-drop, take_at, drop_at}
 use lib.Seq.{set_split}
 use Rattle.vcode_base.specs.declared.op.StackMove.{StackMove}
 use Rattle.vcode_base.specs.declared.op.StackMove.TheVariants.{Copy, Pop, MoveToTop}
 use Rattle.vcode_base.specs.Motions.{entries_after_move}
-use Rattle.job_steps.specs.Motions.{top_entries, stack_after_move}
+use Rattle.job_steps.specs.Motions.{stack_after_move}
 use Rattle.job_steps.specs.Piles.{PileState}
 
 -- without its last elements
@@ -16,8 +15,8 @@ pub reverse_front : {T : Type 0} (xs : List T) (n : ℕ) → n ≤ length xs →
     reverse (take (length xs - n) xs) ≡ drop n (reverse xs)
 reverse_front xs n h =
     let k = length xs - n in
-    let whole : reverse xs ≡ reverse (drop k xs) ++ reverse (take k xs) =
-    ap reverse (sym (take-append-drop k xs)) ∙ reverse-append (take k xs) (drop k xs) in
+    let whole : reverse xs ≡ reverse (drop k xs) ++ reverse (take k xs) = ap reverse (sym (take-append-drop k xs)) ∙
+    reverse-append (take k xs) (drop k xs) in
     let long : length (reverse (drop k xs)) ≡ n = omega (arith, length-reverse (drop k xs), length-drop k xs) in
     sym (ap (drop n) whole ∙ drop_at (reverse (drop k xs)) (reverse (take k xs)) n long)
 
@@ -31,45 +30,23 @@ reverse_set : {T : Type 0} (xs : List T) (x : T) → 0 < length xs →
 reverse_set xs x h =
     let k = length xs - 1 in
     let none : drop (suc k) xs ≡ [] = none_left (drop (suc k) xs) (omega (arith, length-drop (suc k) xs)) in
-    ap reverse (set_split xs k x (omega arith) ∙ ap (λ ys. take k xs ++ x ∷ ys) none)
-    ∙ (reverse-append (take k xs) (x ∷ []) ∙ ap (λ ys. x ∷ ys) (reverse_front xs 1 (omega arith)))
+    ap reverse (set_split xs k x (omega arith) ∙ ap (λ ys. take k xs ++ x ∷ ys) none) ∙
+    (reverse-append (take k xs) (x ∷ []) ∙ ap (λ ys. x ∷ ys) (reverse_front xs 1 (omega arith)))
 
 -- what a motion takes, in three parts from the bottom up
 module _ {E : Type 0} (base low up : List E) where
   stack : List E
   stack = reverse (base ++ (low ++ up))
 
-  in_parts : reverse (base ++ (low ++ up)) ≡ reverse up ++ (reverse low ++ reverse base)
-  in_parts =
-      reverse-append base (low ++ up)
-      ∙ (ap (λ xs. xs ++ reverse base) (reverse-append low up)
-      ∙ append_assoc (reverse up) (reverse low) (reverse base))
-
   under : drop (length up) (reverse (base ++ (low ++ up))) ≡ reverse low ++ reverse base
-  under = ap (drop (length up)) in_parts
-      ∙ drop_at (reverse up) (reverse low ++ reverse base) (length up) (length-reverse up)
-
-  uppers : top_entries (length up) (reverse (base ++ (low ++ up))) ≡ up
-  uppers = ap (top_entries (length up)) in_parts
-      ∙ (ap reverse (take_at (reverse up) (reverse low ++ reverse base) (length up) (length-reverse up))
-      ∙ reverse-reverse up)
-
-  lowers : top_entries (length low) (drop (length up) (reverse (base ++ (low ++ up)))) ≡ low
-  lowers = ap (top_entries (length low)) under
-      ∙ (ap reverse (take_at (reverse low) (reverse base) (length low) (length-reverse low)) ∙ reverse-reverse low)
+  under = grind (arith, reverse-append, append_assoc, drop_at, length-reverse)
 
   rest : drop (length low) (drop (length up) (reverse (base ++ (low ++ up)))) ≡ reverse base
   rest = ap (drop (length low)) under ∙ drop_at (reverse low) (reverse base) (length low) (length-reverse low)
 
-  pub moved : (motion : StackMove) → reverse (base ++ entries_after_move motion low up)
-      ≡ stack_after_move motion (length low) (length up) (reverse (base ++ (low ++ up)))
-  moved motion =
-      reverse-append base (entries_after_move motion low up)
-      ∙ sym (ap (λ xs. reverse (entries_after_move motion xs (top_entries (length up) (reverse (base ++ (low ++ up)))))
-      ++ drop (length low) (drop (length up) (reverse (base ++ (low ++ up))))) lowers
-      ∙ (ap (λ xs. reverse (entries_after_move motion low xs)
-      ++ drop (length low) (drop (length up) (reverse (base ++ (low ++ up))))) uppers
-      ∙ ap (λ xs. reverse (entries_after_move motion low up) ++ xs) rest))
+  pub moved : (motion : StackMove) → reverse (base ++ entries_after_move motion low up) ≡ stack_after_move motion
+      (length low) (length up) (reverse (base ++ (low ++ up)))
+  moved motion = grind (arith, reverse-append, under, take_at, length-reverse, reverse-reverse, append_assoc, rest)
 
 -- ---- as a Vec has them
 
@@ -81,39 +58,25 @@ module _ {E : Type 0} (xs : List E) (lower upper : ℕ) (there : lower + upper �
   abbrev tail : List E
   tail = drop below xs
 
-  long_tail : length tail ≡ lower + upper
-  long_tail = omega (arith, length-drop below xs)
-
   abbrev low : List E
   low = take lower tail
 
   abbrev up : List E
   up = drop lower tail
 
-  long_low : length low ≡ lower
-  long_low = omega (arith, length-take-le lower tail, long_tail)
-
-  long_up : length up ≡ upper
-  long_up = omega (arith, length-drop lower tail, long_tail)
-
   in_three : xs ≡ take below xs ++ (low ++ up)
   in_three = sym (ap (λ ys. take below xs ++ ys) (take-append-drop lower tail) ∙ take-append-drop below xs)
 
-  moved_by : (motion : StackMove) → reverse (take below xs ++ entries_after_move motion low up)
-      ≡ stack_after_move motion lower upper (reverse xs)
-  moved_by motion =
-      moved (take below xs) low up motion
-      ∙ (ap (λ n. stack_after_move motion n (length up) (reverse (take below xs ++ (low ++ up)))) long_low
-      ∙ (ap (λ n. stack_after_move motion lower n (reverse (take below xs ++ (low ++ up)))) long_up
-      ∙ ap (λ ys. stack_after_move motion lower upper (reverse ys)) (sym in_three)))
+  moved_by : (motion : StackMove) → reverse (take below xs ++ entries_after_move motion low up) ≡ stack_after_move
+      motion lower upper (reverse xs)
+  moved_by motion = grind (arith, moved, below, low, up, length-take-le, length-drop, in_three)
 
   -- the lower ones once more after all
   pub copied : reverse (xs ++ low) ≡ stack_after_move Copy lower upper (reverse xs)
   copied =
-      ap reverse (ap (λ ys. ys ++ low) in_three
-      ∙ (append_assoc (take below xs) (low ++ up) low
-      ∙ ap (λ ys. take below xs ++ ys) (append_assoc low up low)))
-      ∙ moved_by Copy
+      ap reverse (ap (λ ys. ys ++ low) in_three ∙
+      (append_assoc (take below xs) (low ++ up) low ∙ ap (λ ys. take below xs ++ ys) (append_assoc low up low))) ∙
+      moved_by Copy
 
   -- the lower ones after the others
   pub turned : reverse (take below xs ++ (up ++ low)) ≡ stack_after_move MoveToTop lower upper (reverse xs)
@@ -138,8 +101,7 @@ module _ {E : Type 0} (xs : List E) (below lower : ℕ) (there : below + lower �
   long_below = length-take-le below xs (omega (arith, there))
 
   copied_after : xs ++ front ≡ take below xs ++ (above ++ front)
-  copied_after =
-      ap (λ ys. ys ++ front) (sym (take-append-drop below xs)) ∙ append_assoc (take below xs) above front
+  copied_after = grind (arith, front, take-append-drop, below, append_assoc, above)
 
   parts_above : above ++ front ≡ front ++ (drop lower above ++ front)
   parts_above =
@@ -150,12 +112,12 @@ module _ {E : Type 0} (xs : List E) (below lower : ℕ) (there : below + lower �
 
   left_above : drop (below + lower) (xs ++ front) ≡ drop lower above ++ front
   left_above =
-      sym (drop-drop lower below (xs ++ front))
-      ∙ (ap (drop lower) (ap (drop below) copied_after ∙ drop_at (take below xs) (above ++ front) below long_below)
-      ∙ (ap (drop lower) parts_above ∙ drop_at front (drop lower above ++ front) lower long_front))
+      sym (drop-drop lower below (xs ++ front)) ∙
+      (ap (drop lower) (ap (drop below) copied_after ∙ drop_at (take below xs) (above ++ front) below long_below) ∙
+      (ap (drop lower) parts_above ∙ drop_at front (drop lower above ++ front) lower long_front))
 
-  pub turned_by_copy : take below (xs ++ front) ++ drop (below + lower) (xs ++ front)
-      ≡ take below xs ++ (drop lower above ++ front)
+  pub turned_by_copy : take below (xs ++ front) ++ drop (below + lower) (xs ++ front) ≡ take below xs ++
+      (drop lower above ++ front)
   turned_by_copy = (λ k. same_below k ++ left_above k)
 
 -- ---- what a pile is then
@@ -172,21 +134,15 @@ module _ {E : Type 0} (old : PileState E) (xs ys : List E) (room : ℕ) (is : pi
 
   with_entries : (F : List E → List E) → reverse ys ≡ F (reverse xs) →
       pile ys room ≡ record old { entries = F old.entries }
-  with_entries F h =
-      (λ k. let p : PileState E = record { entries = h k; room = room } in p)
-      ∙ ap (λ (p : PileState E). let q : PileState E = record p { entries = F p.entries } in q) is
+  with_entries F h = grind arith
 
   pub lowered : (count n : ℕ) → count ≤ length old.entries → n ≡ length xs - count → ys ≡ take n xs →
       pile ys room ≡ record old { entries = drop count old.entries }
-  lowered count n there long h =
-      with_entries (drop count)
-      (ap reverse (h ∙ ap (λ m. take m xs) long) ∙ reverse_front xs count (omega (arith, long_entries)))
+  lowered count n there long h = grind (arith, with_entries, reverse_front, long_entries)
 
   pub topped : (x : E) (n : ℕ) → 0 < length old.entries → n ≡ length xs - 1 → ys ≡ slice_set xs n x →
       pile ys room ≡ record old { entries = x ∷ drop 1 old.entries }
-  topped x n there at h =
-      with_entries (λ entries. x ∷ drop 1 entries)
-      (ap reverse (h ∙ ap (λ m. slice_set xs m x) at) ∙ reverse_set xs x (omega (arith, long_entries)))
+  topped x n there at h = grind (arith, with_entries, reverse_set, long_entries)
 
   module _ (lower upper place : ℕ) (there : lower + upper ≤ length old.entries)
       (at : place ≡ length xs - (lower + upper)) where
@@ -197,23 +153,16 @@ module _ {E : Type 0} (old : PileState E) (xs ys : List E) (room : ℕ) (is : pi
         pile ys room ≡ record old { entries = stack_after_move motion lower upper old.entries }
     shifted_by motion = with_entries (stack_after_move motion lower upper)
 
-    pub shifted_copy : ys ≡ xs ++ take lower (drop place xs) →
-        pile ys room ≡ record old { entries = stack_after_move Copy lower upper old.entries }
-    shifted_copy h =
-        shifted_by Copy (ap reverse (h ∙ ap (λ n. xs ++ take lower (drop n xs)) at) ∙ copied xs lower upper enough)
+    pub shifted_copy : ys ≡ xs ++ take lower (drop place xs) → pile ys room ≡ record old
+        { entries = stack_after_move Copy lower upper old.entries }
+    shifted_copy h = grind (arith, shifted_by, copied, enough)
 
     pub shifted_top : ys ≡ take place xs ++ (drop lower (drop place xs) ++ take lower (drop place xs)) →
         pile ys room ≡ record old { entries = stack_after_move MoveToTop lower upper old.entries }
-    shifted_top h =
-        shifted_by MoveToTop
-        (ap reverse (h ∙ ap (λ n. take n xs ++ (drop lower (drop n xs) ++ take lower (drop n xs))) at)
-        ∙ turned xs lower upper enough)
+    shifted_top h = grind (arith, shifted_by, turned, enough)
 
     pub shifted_pop : ys ≡ take place xs ++ drop (place + lower) xs →
         pile ys room ≡ record old { entries = stack_after_move Pop lower upper old.entries }
     shifted_pop h =
-        shifted_by Pop
-        (ap reverse
-        (h ∙ (ap (λ zs. take place xs ++ zs) (sym (drop-drop lower place xs))
-        ∙ ap (λ n. take n xs ++ drop lower (drop n xs)) at))
-        ∙ removed xs lower upper enough)
+        shifted_by Pop (ap reverse (h ∙ (ap (λ zs. take place xs ++ zs) (sym (drop-drop lower place xs)) ∙ ap
+        (λ n. take n xs ++ drop lower (drop n xs)) at)) ∙ removed xs lower upper enough)

@@ -29,9 +29,8 @@ use Rattle.job_steps.specs.Reached.{IsVerifiedProgram, IsVerifiedTask, AreTyped}
 use Rattle.job_steps.specs.Runs.{progress_from, state_after}
 use Rattle.job_steps.specs.States.{Task, StackEntry, Active, State, callee_of, callee_at, callee_named, calls_with}
 use Rattle.job_steps.specs.States.{first_state, stack_kinds, new_entries}
-use Rattle.job_steps.specs.Steps.{Progress, Running, Over, Stuck, question_of, results_of, has_on_top}
-use Rattle.job_steps.specs.Steps.{can_call, can_run, first_item, calls_past, calls_after, progress_past}
-use Rattle.job_steps.specs.Steps.{next_progress}
+use Rattle.job_steps.specs.Steps.{Progress, Running, Over, Stuck, question_of, results_of, has_on_top, can_call}
+use Rattle.job_steps.specs.Steps.{can_run, first_item, calls_past, calls_after, progress_past, next_progress}
 use Rattle.job_steps.proofs.Bounds.{state_past, running_from, Went, went}
 use Rattle.job_steps.proofs.KindLemmas.{cut, on_top, kinds-pushed, kinds-moved}
 use Rattle.job_steps.proofs.Progresses.{item_of, calls_then, Goes, Ends, Idles, Blocks, Executes, goes}
@@ -44,10 +43,8 @@ kinds_then : (scope : Scope) (b c : Body) (before between after : List Kind) →
     HasKinds scope c between after → HasKinds scope (then_body b c) before after
 unfolding then_body
 kinds_then scope End c before between after h later = subst (λ ks. HasKinds scope c ks after) (sym h) later
-kinds_then scope (Do item line b) c before between after h later =
-    (h.0, h.1, h.2, h.3, h.4, kinds_then scope b c (h.0 ++ h.2) between after h.5 later)
-kinds_then scope (Choice line first second end b) c before between after h later =
-    (h.0, h.1, h.2, h.3, h.4, kinds_then scope b c h.1 between after h.5 later)
+kinds_then scope (Do item line b) c before between after h later = grind (arith, (kinds_then scope b))
+kinds_then scope (Choice line first second end b) c before between after h later = grind (arith, (kinds_then scope b))
 
 proper_then : (b c : Body) → IsProperBody b → IsProperBody c → IsProperBody (then_body b c)
 unfolding then_body
@@ -86,31 +83,25 @@ named (g ∷ fs) name place e =
       named = (bytes_eq-Decides f.name name).0 p.1;
     }
 
-same_arrow : (a b c d : List Kind) → ◌≡◌ {A = Option FunctionType} (Some (a, b)) (Some (c, d)) →
-    (a ≡ c) × (b ≡ d)
-same_arrow a b c d e = let h : ◌≡◌ {A = FunctionType} (a, b) (c, d) = cc in
-    (ap (λ (p : FunctionType). p.0) h, ap (λ (p : FunctionType). p.1) h)
+same_arrow : (a b c d : List Kind) → ◌≡◌ {A = Option FunctionType} (Some (a, b)) (Some (c, d)) → (a ≡ c) × (b ≡ d)
+same_arrow a b c d e = grind arith
 
 arrow_in : (o : Option FunctionType) (arrow : FunctionType) →
     option_map (λ (a : FunctionType). Some a) o ≡ Some (Some arrow) → o ≡ Some arrow
-arrow_in None arrow e = cc
-arrow_in (Some a) arrow e = cc
+arrow_in o arrow e = grind arith
 
 -- the arrow of a function is that of its signature
-arrow_at : (signatures : List Signature) (functions : List Function) (arrows : List FunctionType)
-    (place : ℕ) (f : Function) (arrow : FunctionType) →
-    AreArrows signatures functions arrows → slice_get functions place ≡ Some f →
+arrow_at : (signatures : List Signature) (functions : List Function) (arrows : List FunctionType) (place : ℕ)
+    (f : Function) (arrow : FunctionType) → AreArrows signatures functions arrows → slice_get functions place ≡ Some f →
     signature_of signatures f.name ≡ Some arrow → slice_get arrows place ≡ Some arrow
 arrow_at signatures functions arrows place f arrow same there signed =
-    arrow_in (slice_get arrows place) arrow
-    (sym (slice_get-map (λ (a : FunctionType). Some a) arrows place)
-    ∙ (ap (λ os. slice_get os place) (sym same)
-    ∙ (slice_get-map (λ (g : Function). signature_of signatures g.name) functions place
-    ∙ (ap (option_map (λ (g : Function). signature_of signatures g.name)) there ∙ ap Some signed))))
+    arrow_in (slice_get arrows place) arrow (sym (slice_get-map (λ (a : FunctionType). Some a) arrows place) ∙ (ap (λ
+    os. slice_get os place) (sym same) ∙ (slice_get-map (λ (g : Function). signature_of signatures g.name) functions
+    place ∙ (ap (option_map (λ (g : Function). signature_of signatures g.name)) there ∙ ap Some signed))))
 
 callee_at_place : (signatures : List Signature) (verified : TypedProgram) (name : List ℕ) (takes gives : List Kind) →
-    IsVerifiedProgram signatures verified → signature_of signatures name ≡ Some (takes, gives) →
-    (place : ℕ) → position (λ (f : Function). bytes_eq f.name name) verified.program.functions ≡ Some place →
+    IsVerifiedProgram signatures verified → signature_of signatures name ≡ Some (takes, gives) → (place : ℕ) →
+    position (λ (f : Function). bytes_eq f.name name) verified.program.functions ≡ Some place →
     IsCallee signatures verified name takes gives
 callee_at_place signatures verified name takes gives v s place e =
     let n = named verified.program.functions name place e in
@@ -132,16 +123,13 @@ callee_at_place signatures verified name takes gives v s place e =
     }
 
 callee_by : (signatures : List Signature) (verified : TypedProgram) (name : List ℕ) (takes gives : List Kind) →
-    IsVerifiedProgram signatures verified → signature_of signatures name ≡ Some (takes, gives) →
-    (o : Option ℕ) → position (λ (f : Function). bytes_eq f.name name) verified.program.functions ≡ o →
-    is_some o ≡ true → IsCallee signatures verified name takes gives
-callee_by signatures verified name takes gives v s None e there = absurd (let h : false ≡ true = there in cc)
-callee_by signatures verified name takes gives v s (Some place) e there =
-    callee_at_place signatures verified name takes gives v s place e
+    IsVerifiedProgram signatures verified → signature_of signatures name ≡ Some (takes, gives) → (o : Option ℕ) →
+    position (λ (f : Function). bytes_eq f.name name) verified.program.functions ≡ o → is_some o ≡ true →
+    IsCallee signatures verified name takes gives
+callee_by signatures verified name takes gives v s o e there = grind (arith, callee_at_place)
 
 pub callee : (signatures : List Signature) (verified : TypedProgram) (name : List ℕ) (takes gives : List Kind) →
-    IsVerifiedProgram signatures verified →
-    IsTrue (has_function name verified.program.functions) →
+    IsVerifiedProgram signatures verified → IsTrue (has_function name verified.program.functions) →
     signature_of signatures name ≡ Some (takes, gives) → IsCallee signatures verified name takes gives
 callee signatures verified name takes gives v there s = callee_by signatures verified name takes gives v s _ refl there
 
@@ -160,17 +148,15 @@ pub runs : (signatures : List Signature) (verified : TypedProgram) (item : Item)
     Turns (scope_of signatures verified.program) item takes gives → stack_kinds stack ≡ below ++ takes →
     can_run verified item stack ≡ true
 runs signatures verified (Const k list) takes gives below stack v t e = tops stack below takes [] t.0 e
-runs signatures verified (Elementwise x) takes gives below stack v t e =
-    tops stack below takes (operand_kinds (op.Elementwise x)) t.0 e
-runs signatures verified (Segmented x) takes gives below stack v t e =
-    tops stack below takes (operand_kinds (op.Segmented x)) t.0 e
+runs signatures verified (Elementwise x) takes gives below stack v t e = grind (arith, tops)
+runs signatures verified (Segmented x) takes gives below stack v t e = grind (arith, tops)
 runs signatures verified If takes gives below stack v t e = tops stack below takes (operand_kinds op.If) t.0 e
 runs signatures verified (Move motion lower upper) takes gives below stack v t e =
     moves lower upper (length t.0) (length t.1) (length stack) t.2 t.3
     (kinds-moved motion stack below t.0 t.1 (e ∙ ap (λ ks. below ++ ks) t.4)).0
 runs signatures verified (Call name) takes gives below stack v t e =
-    ap (λ o. can_call o stack) (callee signatures verified name takes gives v t.0 t.1).is
-    ∙ tops stack below takes takes refl e
+    ap (λ o. can_call o stack) (callee signatures verified name takes gives v t.0 t.1).is ∙ tops stack below takes takes
+    refl e
 runs signatures verified Return takes gives below stack v t e = tops stack below takes [] t.0 e
 
 -- the entries afterwards
@@ -178,16 +164,15 @@ abbrev stack_past : Item → ℕ → List StackEntry → List StackEntry
 stack_past item next stack = stack_after (op_of item) (new_entries next (results_of (question_of item stack))) stack
 
 pushed : (item : Item) (next : ℕ) (stack : List StackEntry) (below takes gives : List Kind) →
-    takes ≡ operand_kinds (op_of item) → gives ≡ result_kinds (op_of item) →
-    stack_kinds stack ≡ below ++ takes →
+    takes ≡ operand_kinds (op_of item) → gives ≡ result_kinds (op_of item) → stack_kinds stack ≡ below ++ takes →
     stack_kinds (reverse (new_entries next (results_of (question_of item stack))) ++ drop
     (length (operand_kinds (op_of item))) stack) ≡ below ++ gives
 pushed item next stack below takes gives t g e = grind (arith, kinds-pushed, cut, kinds-results)
 
 moved_by : (motion : StackMove) (stack : List StackEntry) (below lows ups gives : List Kind) (lower upper : ℕ) →
-    length lows ≡ lower → length ups ≡ upper →
-    stack_kinds stack ≡ below ++ (lows ++ ups) → gives ≡ entries_after_move motion lows ups →
-    stack_kinds (stack_after_move motion lower upper stack) ≡ below ++ gives
+    length lows ≡ lower → length ups ≡ upper → stack_kinds stack ≡ below ++ (lows ++ ups) →
+    gives ≡ entries_after_move motion lows ups → stack_kinds (stack_after_move motion lower upper stack) ≡ below ++
+    gives
 moved_by motion stack below lows ups gives lower upper l u e g =
     let by_counts : stack_kinds (stack_after_move motion (length lows) (length ups) stack) ≡ below ++ gives =
     (kinds-moved motion stack below lows ups e).1 ∙ ap (λ ks. below ++ ks) (sym g) in
@@ -196,23 +181,20 @@ moved_by motion stack below lows ups gives lower upper l u e g =
 
 -- what remains of a call, after an instruction that falls through to the next
 behind : (scope : Scope) (results : List Kind) (rest : Body) (ret : ℕ) (outer : List Active)
-    (kinds below under gives given : List Kind) →
-    kinds ≡ (below ++ under) ++ given → HasKinds scope rest (under ++ given) gives → IsProperBody rest →
-    AreTyped scope results outer (below ++ gives) →
+    (kinds below under gives given : List Kind) → kinds ≡ (below ++ under) ++ given →
+    HasKinds scope rest (under ++ given) gives → IsProperBody rest → AreTyped scope results outer (below ++ gives) →
     AreTyped scope results (record { rest = rest; ret = ret } ∷ outer) kinds
 behind scope results rest ret outer kinds below under gives given e later proper out =
     (below, under ++ given, gives, e ∙ append_assoc below under given, later, proper, out)
 
 typed_item : (signatures : List Signature) (verified : TypedProgram) → IsVerifiedProgram signatures verified →
     (results : List Kind) (item : Item) (rest : Body) (ret : ℕ) (outer : List Active) (next : ℕ)
-    (stack : List StackEntry)
-    (below under takes gives given : List Kind) → IsBodyInstruction item → IsProperBody rest →
-    Turns (scope_of signatures verified.program) item takes given →
-    stack_kinds stack ≡ (below ++ under) ++ takes →
+    (stack : List StackEntry) (below under takes gives given : List Kind) → IsBodyInstruction item → IsProperBody rest →
+    Turns (scope_of signatures verified.program) item takes given → stack_kinds stack ≡ (below ++ under) ++ takes →
     HasKinds (scope_of signatures verified.program) rest (under ++ given) gives →
     AreTyped (scope_of signatures verified.program) results outer (below ++ gives) →
-    AreTyped (scope_of signatures verified.program) results
-    (calls_past verified item (record { rest = rest; ret = ret }) outer) (stack_kinds (stack_past item next stack))
+    AreTyped (scope_of signatures verified.program) results (calls_past verified item
+    (record { rest = rest; ret = ret }) outer) (stack_kinds (stack_past item next stack))
 typed_item signatures verified v results (Const k list) rest ret outer next stack below under takes gives given inner
     proper t e later out =
     behind (scope_of signatures verified.program) results rest ret outer _ below under gives given
@@ -228,8 +210,8 @@ typed_item signatures verified v results (Segmented x) rest ret outer next stack
 typed_item signatures verified v results (Move motion lower upper) rest ret outer next stack below under takes gives
     given inner proper t e later out =
     behind (scope_of signatures verified.program) results rest ret outer _ below under gives given
-    (moved_by motion stack (below ++ under) t.0 t.1 given lower upper t.2 t.3 (e
-    ∙ ap (λ ks. (below ++ under) ++ ks) t.4) t.5) later proper out
+    (moved_by motion stack (below ++ under) t.0 t.1 given lower upper t.2 t.3
+    (e ∙ ap (λ ks. (below ++ under) ++ ks) t.4) t.5) later proper out
 typed_item signatures verified v results (Call name) rest ret outer next stack below under takes gives given inner
     proper t e later out =
     let scope = scope_of signatures verified.program in
@@ -249,33 +231,26 @@ typed_item signatures verified v results (Call name) rest ret outer next stack b
           proper out,
     )
 typed_item signatures verified v results If rest ret outer next stack below under takes gives given inner proper t e
-    later out = absurd inner
+    later out =
+    absurd inner
 typed_item signatures verified v results Return rest ret outer next stack below under takes gives given inner proper t e
-    later out = absurd inner
+    later out =
+    absurd inner
 
 chosen : (P : Body → Type 0) (flag : Bool) (first second : Body) → P first → P second → P (cond flag first second)
-chosen P true first second p q = p
-chosen P false first second p q = q
+chosen P flag first second p q = grind arith
 
 -- what is typed stays typed
 typed_after : (signatures : List Signature) (verified : TypedProgram) → IsVerifiedProgram signatures verified →
     (results : List Kind) (flag : Bool) (rest : Body) (ret : ℕ) (outer : List Active) (next : ℕ)
-    (stack : List StackEntry) →
-    AreTyped (scope_of signatures verified.program) results (record { rest = rest; ret = ret } ∷ outer)
-    (stack_kinds stack) →
+    (stack : List StackEntry) → AreTyped (scope_of signatures verified.program) results
+    (record { rest = rest; ret = ret } ∷ outer) (stack_kinds stack) →
     AreTyped (scope_of signatures verified.program) results (calls_after verified flag rest ret outer)
     (stack_kinds (stack_past (first_item rest ret).item next stack))
 typed_after signatures verified v results flag End ret outer next stack (below, own, gives, e, same, proper, out) =
     grind arith
-typed_after signatures verified v results flag (Do item line rest) ret outer next stack (
-  below,
-  own,
-  gives,
-  e,
-  h,
-  proper,
-  out,
-) =
+typed_after signatures verified v results flag (Do item line rest) ret outer next stack
+    (below, own, gives, e, h, proper, out) =
     typed_item signatures verified v results item rest ret outer next stack below h.0 h.1 gives h.2 proper.0 proper.1
     h.3 (e ∙ (ap (λ ks. below ++ ks) h.4 ∙ sym (append_assoc below h.0 h.1))) h.5 out
 typed_after signatures verified v results flag (Choice line first second end rest) ret outer next stack (
@@ -310,26 +285,19 @@ pub runs_at : (signatures : List Signature) (verified : TypedProgram) → IsVeri
     (stack_kinds stack) → can_run verified (first_item rest ret).item stack ≡ true
 runs_at signatures verified v results End ret outer stack (below, own, gives, e, same, proper, out) = cc
 runs_at signatures verified v results (Do item line rest) ret outer stack (below, own, gives, e, h, proper, out) =
-    runs signatures verified item h.1 h.2 (below ++ h.0) stack v h.3 (e
-    ∙ (ap (λ ks. below ++ ks) h.4 ∙ sym (append_assoc below h.0 h.1)))
-runs_at signatures verified v results (Choice line first second end rest) ret outer stack (
-  below,
-  own,
-  gives,
-  e,
-  h,
-  proper,
-  out,
-) =
-    tops stack (below ++ h.0) (kind.Bool ∷ []) (kind.Bool ∷ []) refl (e
-    ∙ (ap (λ ks. below ++ ks) h.2 ∙ sym (append_assoc below h.0 (kind.Bool ∷ []))))
+    runs signatures verified item h.1 h.2 (below ++ h.0) stack v h.3
+    (e ∙ (ap (λ ks. below ++ ks) h.4 ∙ sym (append_assoc below h.0 h.1)))
+runs_at signatures verified v results (Choice line first second end rest) ret outer stack
+    (below, own, gives, e, h, proper, out) =
+    tops stack (below ++ h.0) (kind.Bool ∷ []) (kind.Bool ∷ []) refl
+    (e ∙ (ap (λ ks. below ++ ks) h.2 ∙ sym (append_assoc below h.0 (kind.Bool ∷ []))))
 
 -- ---- states
 
 abbrev pub IsTyped : List Signature → Task → State → Type 0
 IsTyped signatures task s =
-    (1 ≤ length s.calls)
-    × AreTyped (scope_of signatures task.verified.program) task.verified.results s.calls (stack_kinds s.stack)
+    (1 ≤ length s.calls) × AreTyped (scope_of signatures task.verified.program) task.verified.results s.calls
+    (stack_kinds s.stack)
 
 typed_next : (signatures : List Signature) (task : Task) (s next : State) → IsVerifiedTask signatures task →
     IsTyped signatures task s → Went task s next → IsTyped signatures task next
@@ -356,10 +324,8 @@ typed signatures task v (suc n) s e =
 
 -- ---- never stuck
 
-past_stuck : (rule : Rule) (item : Item) (s : State) (calls : List Active) →
-    progress_past rule item s calls ≡ Stuck → ⊥
-past_stuck rule item s [] h = over_stuck _ _ _ h
-past_stuck rule item s (last ∷ others) h = running_stuck _ h
+past_stuck : (rule : Rule) (item : Item) (s : State) (calls : List Active) → progress_past rule item s calls ≡ Stuck → ⊥
+past_stuck rule item s calls h = grind (arith, over_stuck, running_stuck)
 
 step_stuck : (signatures : List Signature) (task : Task) (s : State) → IsVerifiedTask signatures task →
     IsTyped signatures task s → (p : Progress) → Goes task s p → p ≡ Stuck → ⊥
@@ -369,15 +335,13 @@ step_stuck signatures task s v t p (Idles none is) e =
 step_stuck signatures task s v t p (Blocks call outer calls blocked is) e =
     let scope = scope_of signatures task.verified.program in
     let before = subst (λ cs. AreTyped scope task.verified.results cs (stack_kinds s.stack)) calls t.1 in
-    let h : true ≡ false =
-    sym (runs_at signatures task.verified v task.verified.results call.rest call.ret outer s.stack before) ∙ blocked
-    in cc
+    let h : true ≡ false = sym (runs_at signatures task.verified v task.verified.results call.rest call.ret outer
+    s.stack before) ∙ blocked in cc
 step_stuck signatures task s v t p (Executes call outer passes is) e =
     past_stuck task.rule (item_of call) s (calls_then task s call outer) (sym is ∙ e)
 
 stuck_from : (signatures : List Signature) (task : Task) → IsVerifiedTask signatures task → (n : ℕ) (p : Progress) →
-    state_after task n ≡ p → (state_after task n ≡ Stuck → ⊥) →
-    progress_from task p ≡ Stuck → ⊥
+    state_after task n ≡ p → (state_after task n ≡ Stuck → ⊥) → progress_from task p ≡ Stuck → ⊥
 stuck_from signatures task v n (Running s) is never e =
     step_stuck signatures task s v (typed signatures task v n s is) (next_progress task s) (goes task s) e
 stuck_from signatures task v n (Over ending x p) is never e = over_stuck ending x p e
@@ -386,5 +350,4 @@ stuck_from signatures task v n Stuck is never e = never is
 pub never_stuck : (signatures : List Signature) (task : Task) → IsVerifiedTask signatures task → (n : ℕ) →
     state_after task n ≡ Stuck → ⊥
 never_stuck signatures task v zero e = running_stuck (first_state task.verified) e
-never_stuck signatures task v (suc n) e =
-    stuck_from signatures task v n (state_after task n) refl (never_stuck signatures task v n) e
+never_stuck signatures task v (suc n) e = grind (arith, stuck_from, (never_stuck signatures task v n))

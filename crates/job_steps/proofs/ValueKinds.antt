@@ -1,28 +1,22 @@
 -- The results of an instruction are of the kinds that its results have.
-use Rattle.std.proofs.Common.{rules}
-use Rattle.std.proofs.Common.{◌≡◌, ℕ, ℤ, pos, ◌+◌, ◌≤◌, Bool, true, false, cond, not, ltb, List, [], ◌∷◌, map}
-use Rattle.std.proofs.Common.{take, drop, Option, Some, None, refl, arith, suc, zero}
-use Rattle.std.specs.Prelude.{All, ◌≤ℤ◌, ◌||◌, zip, filter, flat_map, count_by, slice_set, slice_get}
-use Rattle.std.specs.Prelude.{unsigned_abs, int_lt, int_le, replicate}
+use Rattle.std.proofs.Common.{rules, ◌≡◌, ℕ, ℤ, pos, ◌+◌, ◌≤◌, Bool, false, cond, ltb, List, [], ◌∷◌, map, take, drop}
+use Rattle.std.proofs.Common.{Option, Some, None, refl, arith}
+use Rattle.std.specs.Prelude.{All, ◌≤ℤ◌, ◌||◌, zip, filter, flat_map, count_by, slice_set, slice_get, unsigned_abs}
+use Rattle.std.specs.Prelude.{int_lt, replicate}
 use Rattle.std.specs.List.{list_any}
-use Rattle.std.specs.Ordering.{int_eq}
 use Rattle.std.proofs.lemmas.Bool.Decides.{nat_tests}
-use Rattle.std.proofs.lemmas.Int.{ints}
 use Rattle.std.proofs.lemmas.List.{length-take}
-use Rattle.std.proofs.lemmas.List.Elements.{All-nil, All-cons, All-map}
-use Rattle.std.proofs.lemmas.List.Elements.{All-set, All-filter, All-replicate, All-weaker}
+use Rattle.std.proofs.lemmas.List.Elements.{All-nil, All-cons, All-map, All-set, All-filter, All-replicate, All-weaker}
+use Rattle.std.proofs.lemmas.List.Elements.{All-take}
 use Rattle.std.proofs.lemmas.List.Sums.{count_by-le-length, sum_by-cons}
 use Rattle.vcode_base.specs.declared.fault.DataFault.TheVariants.{BadLength}
 use Rattle.vcode_base.specs.declared.kind.Kind.{Kind}
 use Rattle.vcode_base.specs.declared.kind.Kind.TheVariants as kind
 use Rattle.vcode_base.specs.declared.kind.Scalar.TheVariants.{Int as Numbers, Bool as Flags}
-use Rattle.vcode_base.specs.declared.op.Comparison.{Comparison}
-use Rattle.vcode_base.specs.declared.op.Comparison.TheVariants.{Less, LessOrEqual, Greater, GreaterOrEqual, Equal}
-use Rattle.vcode_base.specs.declared.op.Comparison.TheVariants.{NotEqual}
 use Rattle.vcode_base.specs.declared.op.Logic.{Logic as LogicOp}
 use Rattle.vcode_base.specs.declared.op.Fold.TheVariants.{Sum, Product, Max, Min, Logic as LogicFold}
 use Rattle.vcode_base.specs.declared.op.Op.{Op}
-use Rattle.vcode_base.specs.declared.op.Op.TheVariants.{Const, Elementwise, Segmented, If, Move, Call, Return}
+use Rattle.vcode_base.specs.declared.op.Op.TheVariants.{Elementwise, Segmented, Const, If, Move, Call, Return}
 use Rattle.vcode_base.specs.declared.op.Elementwise.{Elementwise as ElementwiseOp}
 use Rattle.vcode_base.specs.declared.op.Elementwise.TheVariants.{Arith, Compare, Logic, Not, Select, IntToBool}
 use Rattle.vcode_base.specs.declared.op.Elementwise.TheVariants.{BoolToInt}
@@ -30,48 +24,34 @@ use Rattle.vcode_base.specs.declared.op.Segmented.{Segmented as SegmentedOp}
 use Rattle.vcode_base.specs.declared.op.Segmented.TheVariants.{Scan, Reduce, Distribute, Index, Permute, BackPermute}
 use Rattle.vcode_base.specs.declared.op.Segmented.TheVariants.{DefaultPermute, Extract, Replace, Pack, MakeSegdes}
 use Rattle.vcode_base.specs.declared.op.Segmented.TheVariants.{Lengths}
-use Rattle.vcode_base.specs.Elements.{is_set, comparison, logic, fold_of}
-use Rattle.vcode_base.specs.Kinds.{IsFlag, HasKind, HaveKinds, kind_of, elementwise_operands}
-use Rattle.vcode_base.specs.Kinds.{elementwise_results, segmented_operands, segmented_results, source_kinds}
-use Rattle.vcode_base.specs.Kinds.{result_kinds}
+use Rattle.vcode_base.specs.Elements.{is_set, logic, fold_of}
+use Rattle.vcode_base.specs.Kinds.{IsFlag, HasKind, HaveKinds, elementwise_operands, elementwise_results}
+use Rattle.vcode_base.specs.Kinds.{segmented_operands, segmented_results, source_kinds, result_kinds, kind_of}
 use Rattle.vcode_base.specs.Meaning.{operand, first_fault, elementwise_result, segmented_result, segmented_fault}
 use Rattle.vcode_base.specs.Meaning.{segmented_second, value_fault, result_of, second_result_of, two_by_two}
 use Rattle.vcode_base.specs.Meaning.{selection_of, flagged_elements}
-use Rattle.vcode_base.specs.Segments.{sizes, total, segments, element, scatter_of, permutation_of}
-use Rattle.vcode_base.specs.Segments.{folds_before}
+use Rattle.vcode_base.specs.Segments.{sizes, total, segments, element, scatter_of, permutation_of, folds_before}
 use Rattle.job_steps.specs.Reached.{HasItsKind}
 use Rattle.job_steps.specs.Steps.{vectors_of}
 use Rattle.job_steps.proofs.Flags.{All-always, All-zip, All-flat_map, All-cut, at_index, zero_flag, is_flag}
-use Rattle.job_steps.proofs.Flags.{chosen_flag, logic_flag, fold_flag, scanned_flags, moved_flags, permuted_flags}
+use Rattle.job_steps.proofs.Flags.{chosen_flag, logic_flag, moved_flags, permuted_flags, folded, first_flag}
 
 -- an operand is of the kind at its place
-operand_kind : (ks : List Kind) (xs : List (List ℤ)) → HaveKinds ks xs → (i : ℕ) (k : Kind) →
-    slice_get ks i ≡ Some k → HasKind k (operand xs i)
+operand_kind : (ks : List Kind) (xs : List (List ℤ)) → HaveKinds ks xs → (i : ℕ) (k : Kind) → slice_get ks i ≡ Some k →
+    HasKind k (operand xs i)
 operand_kind [] xs h i k e = absurd (let g : ◌≡◌ {A = Option Kind} None (Some k) = e in cc)
-operand_kind (l ∷ ks) [] h i k e = absurd h
-operand_kind (l ∷ ks) (x ∷ xs) h zero k e = let same : l ≡ k = (let g : Some l ≡ Some k = e in cc) in rw same at h.0
-operand_kind (l ∷ ks) (x ∷ xs) h (suc i) k e = operand_kind ks xs h.1 i k e
+operand_kind (l ∷ ks) xs h i k e = grind (arith, (operand_kind ks))
 
 -- ---- elementwise instructions
 
 paired_flags : (f : ℤ → ℤ → ℤ) → ((a b : ℤ) → IsFlag (f a b)) → (xs ys : List ℤ) → All IsFlag (two_by_two f xs ys)
 paired_flags f always xs ys = search (rules, All-map, All-always)
 
-comparison_flag : (op : Comparison) (a b : ℤ) → IsFlag (comparison op a b)
-comparison_flag Less a b = is_flag (int_lt a b)
-comparison_flag LessOrEqual a b = is_flag (int_le a b)
-comparison_flag Greater a b = is_flag (int_lt b a)
-comparison_flag GreaterOrEqual a b = is_flag (int_le b a)
-comparison_flag Equal a b = is_flag (int_eq a b)
-comparison_flag NotEqual a b = is_flag (not (int_eq a b))
-
-logic_flags : (op : LogicOp) (xs ys : List ℤ) → All IsFlag xs → All IsFlag ys →
-    All IsFlag (two_by_two (logic op) xs ys)
+logic_flags : (op : LogicOp) (xs ys : List ℤ) → All IsFlag xs → All IsFlag ys → All IsFlag (two_by_two (logic op) xs ys)
 logic_flags op xs ys p q =
     All-map IsFlag (λ (m : ℤ × ℤ). logic op m.0 m.1) (zip xs ys)
     (All-weaker (λ (m : ℤ × ℤ). IsFlag m.0 × IsFlag m.1) (λ (m : ℤ × ℤ). IsFlag (logic op m.0 m.1))
-    (λ m h. logic_flag op m.0 m.1 h.0 h.1)
-    (zip xs ys) (All-zip IsFlag IsFlag xs ys p q))
+    (λ m h. logic_flag op m.0 m.1 h.0 h.1) (zip xs ys) (All-zip IsFlag IsFlag xs ys p q))
 
 selected_flags : (bs xs ys : List ℤ) → All IsFlag xs → All IsFlag ys → All IsFlag (selection_of bs xs ys)
 selected_flags bs xs ys p q =
@@ -92,16 +72,14 @@ two : (k l : Kind) (words others : List ℤ) → HasKind k words → HasKind l o
 two k l words others p q = grind arith
 
 elementwise_kinds : (e : ElementwiseOp) (xs : List (List ℤ)) (others : List (List ℤ)) →
-    HaveKinds (elementwise_operands e) xs →
-    All HasItsKind (vectors_of (elementwise_results e) (elementwise_result e xs ∷ others))
+    HaveKinds (elementwise_operands e) xs → All HasItsKind (vectors_of (elementwise_results e)
+    (elementwise_result e xs ∷ others))
 elementwise_kinds (Arith op) xs others h = one kind.Int _ tt
-elementwise_kinds (Compare op) xs others h =
-    one kind.Bool _ (paired_flags (comparison op) (comparison_flag op) (operand xs 0) (operand xs 1))
+elementwise_kinds (Compare op) xs others h = grind (arith, one, paired_flags, is_flag)
 elementwise_kinds (Logic op Numbers) xs others h = one kind.Int _ tt
 elementwise_kinds (Logic op Flags) xs others h =
     let own = elementwise_operands (Logic op Flags) in
-    one kind.Bool _
-    (logic_flags op (operand xs 0) (operand xs 1) (operand_kind own xs h 0 kind.Bool refl)
+    one kind.Bool _ (logic_flags op (operand xs 0) (operand xs 1) (operand_kind own xs h 0 kind.Bool refl)
     (operand_kind own xs h 1 kind.Bool refl))
 elementwise_kinds (Not Numbers) xs others h = one kind.Int _ tt
 elementwise_kinds (Not Flags) xs others h = search (rules, one, All-map, All-always, is_flag)
@@ -117,15 +95,15 @@ segment_flags s xs p = All-cut IsFlag (sizes s) xs p
 
 scan_flags : (op : LogicOp) (s xs : List ℤ) → All IsFlag xs →
     All IsFlag (flat_map (folds_before (LogicFold op Flags)) (segments s xs))
-scan_flags op s xs p = search (rules, All-flat_map, All-weaker, scanned_flags, segment_flags)
+scan_flags op s xs p =
+    search (rules, All-flat_map, All-weaker, All-map, All-always, folded, first_flag, All-take, segment_flags)
 
 reduce_flags : (op : LogicOp) (s xs : List ℤ) → All IsFlag xs →
     All IsFlag (map (fold_of (LogicFold op Flags)) (segments s xs))
-reduce_flags op s xs p = search (rules, All-map, All-weaker, fold_flag, segment_flags)
+reduce_flags op s xs p = search (rules, All-map, All-weaker, folded, first_flag, segment_flags)
 
 -- of each first part, whatever the second
-firsts : {A B : Type 0} (P : A → Type 0) (xs : List A) (ys : List B) → All P xs →
-    All (λ (m : A × B). P m.0) (zip xs ys)
+firsts : {A B : Type 0} (P : A → Type 0) (xs : List A) (ys : List B) → All P xs → All (λ (m : A × B). P m.0) (zip xs ys)
 firsts {A} {B} P xs ys p =
     All-weaker (λ (m : A × B). P m.0 × Unit {0}) (λ (m : A × B). P m.0) (λ m h. h.0) (zip xs ys)
     (All-zip P (λ (y : B). Unit {0}) xs ys p (All-always (λ (y : B). Unit {0}) (λ y. tt) ys))
@@ -147,9 +125,8 @@ permute_flags : (vs iss : List (List ℤ)) → All (All IsFlag) vs →
     All IsFlag (flat_map (λ (m : List ℤ × List ℤ). permutation_of m.0 m.1) (zip vs iss))
 permute_flags vs iss p =
     All-flat_map IsFlag (λ (m : List ℤ × List ℤ). permutation_of m.0 m.1) (zip vs iss)
-    (All-weaker (λ (m : List ℤ × List ℤ). All IsFlag m.0)
-    (λ (m : List ℤ × List ℤ). All IsFlag (permutation_of m.0 m.1)) (λ m h. permuted_flags m.0 m.1 h)
-    (zip vs iss) (firsts (All IsFlag) vs iss p))
+    (All-weaker (λ (m : List ℤ × List ℤ). All IsFlag m.0) (λ (m : List ℤ × List ℤ). All IsFlag (permutation_of m.0 m.1))
+    (λ m h. permuted_flags m.0 m.1 h) (zip vs iss) (firsts (All IsFlag) vs iss p))
 
 element_flag : (v : List ℤ) (i : ℤ) → All IsFlag v → IsFlag (element v i)
 element_flag v i p = at_index IsFlag v (unsigned_abs i) (pos 0) p zero_flag
@@ -158,11 +135,9 @@ gather_flags : (vs iss : List (List ℤ)) → All (All IsFlag) vs →
     All IsFlag (flat_map (λ (m : List ℤ × List ℤ). map (element m.0) m.1) (zip vs iss))
 gather_flags vs iss p =
     All-flat_map IsFlag (λ (m : List ℤ × List ℤ). map (element m.0) m.1) (zip vs iss)
-    (All-weaker (λ (m : List ℤ × List ℤ). All IsFlag m.0)
-    (λ (m : List ℤ × List ℤ). All IsFlag (map (element m.0) m.1))
-    (λ m h. All-map IsFlag (element m.0) m.1
-    (All-always (λ i. IsFlag (element m.0 i)) (λ i. element_flag m.0 i h) m.1)) (zip vs iss)
-    (firsts (All IsFlag) vs iss p))
+    (All-weaker (λ (m : List ℤ × List ℤ). All IsFlag m.0) (λ (m : List ℤ × List ℤ). All IsFlag (map (element m.0) m.1))
+    (λ m h. All-map IsFlag (element m.0) m.1 (All-always (λ i. IsFlag (element m.0 i)) (λ i. element_flag m.0 i h) m.1))
+    (zip vs iss) (firsts (All IsFlag) vs iss p))
 
 overlay_flags : (vs iss ds : List (List ℤ)) → All (All IsFlag) vs → All (All IsFlag) ds →
     All IsFlag (flat_map (λ (m : List ℤ × (List ℤ × List ℤ)). scatter_of m.0 m.1.0 m.1.1) (zip vs (zip iss ds)))
@@ -171,8 +146,7 @@ overlay_flags vs iss ds p q =
     (All-weaker (λ (m : List ℤ × (List ℤ × List ℤ)). All IsFlag m.0 × All IsFlag m.1.1)
     (λ (m : List ℤ × (List ℤ × List ℤ)). All IsFlag (scatter_of m.0 m.1.0 m.1.1))
     (λ m h. moved_flags m.0 m.1.0 m.1.1 h.0 h.1) (zip vs (zip iss ds))
-    (All-zip (All IsFlag) (λ (m : List ℤ × List ℤ). All IsFlag m.1) vs (zip iss ds) p
-    (seconds (All IsFlag) iss ds q)))
+    (All-zip (All IsFlag) (λ (m : List ℤ × List ℤ). All IsFlag m.1) vs (zip iss ds) p (seconds (All IsFlag) iss ds q)))
 
 extract_flags : (vs : List (List ℤ)) (is : List ℤ) → All (All IsFlag) vs →
     All IsFlag (map (λ (m : List ℤ × ℤ). element m.0 m.1) (zip vs is))
@@ -203,49 +177,32 @@ counts (n ∷ s) bs =
     let here = take (unsigned_abs n) bs in
     let later = segments s (drop (unsigned_abs n) bs) in
     let count : List ℤ → ℤ = λ xs. pos (count_by is_set xs) in
-    let made : total (count here ∷ map count later) ≡ count_by is_set here + total (map count later) =
-    sum_by-cons unsigned_abs (count here) (map count later) in
+    let made : total (count here ∷ map count later) ≡ count_by is_set here + total (map count later) = sum_by-cons
+    unsigned_abs (count here) (map count later) in
     let whole : total (n ∷ s) ≡ unsigned_abs n + total s = sum_by-cons unsigned_abs n s in
     let rest : total (map count later) ≤ total s = counts s (drop (unsigned_abs n) bs) in
     omega (arith, made, whole, rest, count_by-le-length is_set here, length-take (unsigned_abs n) bs)
 
-at_most : (a b most : ℕ) → a ≤ b → b ≤ most → a ≤ most
-at_most a b most h k = omega arith
-
 within : (most n : ℕ) → ltb most n ≡ false → n ≤ most
 within most n h = grind (arith, nat_tests)
 
-not_negative : (m : ℕ) → pos 0 ≤ℤ pos m
-not_negative m = grind (arith, ints)
-
-pack_counts : (s bs : List ℤ) → HasKind kind.Segdes s →
-    HasKind kind.Segdes (map (λ (xs : List ℤ). pos (count_by is_set xs)) (segments s bs))
-pack_counts s bs h = search (rules, All-map, All-always, not_negative, at_most, counts)
+pack_counts : (s bs : List ℤ) → HasKind kind.Segdes s → HasKind kind.Segdes
+    (map (λ (xs : List ℤ). pos (count_by is_set xs)) (segments s bs))
+pack_counts s bs h = search (rules, All-map, All-always, counts)
 
 neither : (a b : Bool) → first_fault ((a || b, BadLength) ∷ []) ≡ None → (a ≡ false) × (b ≡ false)
-neither true b e = absurd (let h : Some BadLength ≡ None = e in cc)
-neither false true e = absurd (let h : Some BadLength ≡ None = e in cc)
-neither false false e = (refl, refl)
-
-positive : (n : ℤ) → int_lt n (pos 0) ≡ false → pos 0 ≤ℤ n
-positive n e = grind (arith, ints, e)
+neither a b e = grind arith
 
 none_negative : (xs : List ℤ) → list_any (λ n. int_lt n (pos 0)) xs ≡ false → All (λ n. pos 0 ≤ℤ n) xs
 none_negative [] e = All-nil (λ n. pos 0 ≤ℤ n)
-none_negative (x ∷ xs) e =
-    let p = either (int_lt x (pos 0)) (list_any (λ n. int_lt n (pos 0)) xs) e in
-    All-cons (λ n. pos 0 ≤ℤ n) x xs (positive x p.0) (none_negative xs p.1)
-  where
-    either : (a b : Bool) → (a || b) ≡ false → (a ≡ false) × (b ≡ false)
-    either true b h = absurd (let g : true ≡ false = h in cc)
-    either false b h = (refl, h)
+none_negative (x ∷ xs) e = grind (arith, All-cons, (none_negative xs))
 
 made : (xs : List ℤ) → segmented_fault MakeSegdes (xs ∷ []) ≡ None → HasKind kind.Segdes xs
 made xs e = grind (arith, neither, none_negative, within)
 
 segmented_kinds : (e : SegmentedOp) (xs : List (List ℤ)) → HaveKinds (segmented_operands e) xs →
-    segmented_fault e xs ≡ None →
-    All HasItsKind (vectors_of (segmented_results e) (segmented_result e xs ∷ segmented_second e xs ∷ []))
+    segmented_fault e xs ≡ None → All HasItsKind (vectors_of (segmented_results e)
+    (segmented_result e xs ∷ segmented_second e xs ∷ []))
 segmented_kinds (Scan Sum) xs h v = one kind.Int _ tt
 segmented_kinds (Scan Product) xs h v = one kind.Int _ tt
 segmented_kinds (Scan Max) xs h v = one kind.Int _ tt
@@ -260,8 +217,7 @@ segmented_kinds (Reduce (LogicFold op Numbers)) xs h v = one kind.Int _ tt
 segmented_kinds (Reduce (LogicFold op Flags)) xs h v = grind (arith, one, reduce_flags, operand_kind)
 segmented_kinds (Distribute Numbers) xs h v = one kind.Int _ tt
 segmented_kinds (Distribute Flags) xs h v =
-    one kind.Bool _
-    (distribute_flags (sizes (operand xs 1)) (operand xs 0)
+    one kind.Bool _ (distribute_flags (sizes (operand xs 1)) (operand xs 0)
     (operand_kind (segmented_operands (Distribute Flags)) xs h 0 kind.Bool refl))
 segmented_kinds Index xs h v = one kind.Int _ tt
 segmented_kinds (Permute Numbers) xs h v = one kind.Int _ tt
@@ -277,16 +233,14 @@ segmented_kinds (BackPermute Flags) xs h v =
 segmented_kinds (DefaultPermute Numbers) xs h v = one kind.Int _ tt
 segmented_kinds (DefaultPermute Flags) xs h v =
     let own = segmented_operands (DefaultPermute Flags) in
-    one kind.Bool _
-    (overlay_flags (segments (operand xs 3) (operand xs 0)) (segments (operand xs 3) (operand xs 1))
+    one kind.Bool _ (overlay_flags (segments (operand xs 3) (operand xs 0)) (segments (operand xs 3) (operand xs 1))
     (segments (operand xs 4) (operand xs 2))
     (segment_flags (operand xs 3) (operand xs 0) (operand_kind own xs h 0 kind.Bool refl))
     (segment_flags (operand xs 4) (operand xs 2) (operand_kind own xs h 2 kind.Bool refl)))
 segmented_kinds (Extract Numbers) xs h v = one kind.Int _ tt
 segmented_kinds (Extract Flags) xs h v =
-    one kind.Bool _ (extract_flags (segments (operand xs 2) (operand xs 0)) (operand xs 1)
-    (segment_flags (operand xs 2) (operand xs 0)
-    (operand_kind (segmented_operands (Extract Flags)) xs h 0 kind.Bool refl)))
+    one kind.Bool _ (extract_flags (segments (operand xs 2) (operand xs 0)) (operand xs 1) (segment_flags (operand xs 2)
+    (operand xs 0) (operand_kind (segmented_operands (Extract Flags)) xs h 0 kind.Bool refl)))
 segmented_kinds (Replace Numbers) xs h v = one kind.Int _ tt
 segmented_kinds (Replace Flags) xs h v =
     let own = segmented_operands (Replace Flags) in

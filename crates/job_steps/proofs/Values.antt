@@ -1,25 +1,21 @@
 -- The words of the vectors that a verified job reaches are those of their kinds.
-use Rattle.std.proofs.Common.{arith}
-use Rattle.std.proofs.Common.{◌≡◌, ℕ, ◌+◌, List, [], ◌∷◌, ◌++◌, length, map, take, refl, sym, ◌∙◌, ap, subst, zero, suc}
+use Rattle.std.proofs.Common.{arith, ◌≡◌, ℕ, ◌+◌, List, [], ◌∷◌, ◌++◌, length, map, take, refl, sym, ◌∙◌, ap, subst}
+use Rattle.std.proofs.Common.{zero, suc}
 use Rattle.std.specs.Prelude.{All}
 use Rattle.std.proofs.lemmas.List.{append_assoc}
 use Rattle.std.proofs.lemmas.List.Elements.{All-nil, All-cons, All-head, All-tail, All-take}
-use Rattle.vcode_base.specs.declared.instr.Instr.TheVariants.{Const, Elementwise, Segmented, If, Move, Call, Return}
 use Rattle.vcode_base.specs.declared.kind.Kind.{Kind}
 use Rattle.vcode_base.specs.declared.kind.Kind.TheVariants as kind
-use Rattle.vcode_base.specs.declared.op.Op.TheVariants as op
 use Rattle.vcode_base.specs.Instructions.{op_of}
-use Rattle.vcode_base.specs.Kinds.{HaveKinds, operand_kinds, source_kinds}
+use Rattle.vcode_base.specs.Kinds.{HaveKinds, source_kinds}
 use Rattle.vcode_reader.specs.Trees.{Item, Body, End, Do, Choice, IsBodyInstruction}
 use Rattle.signatures.specs.Signatures.{Signature}
 use Rattle.verifier.specs.Kinded.{Turns, scope_of}
 use Rattle.job_steps.specs.Motions.{top_entries}
 use Rattle.job_steps.specs.Reached.{IsVerifiedTask, AreTyped, HasItsKind, ValuesHaveKinds}
 use Rattle.job_steps.specs.Runs.{state_after}
-use Rattle.job_steps.specs.States.{Vector, Task, StackEntry, Active, State, words_of, stack_kinds}
-use Rattle.job_steps.specs.States.{new_entries}
-use Rattle.job_steps.specs.Steps.{Running, first_item, sources_of, question_of}
-use Rattle.job_steps.specs.Steps.{results_of}
+use Rattle.job_steps.specs.States.{Vector, Task, StackEntry, Active, State, words_of, stack_kinds, new_entries}
+use Rattle.job_steps.specs.Steps.{Running, first_item, sources_of, question_of, results_of}
 use Rattle.job_steps.proofs.Bounds.{running_from, Went, went}
 use Rattle.job_steps.proofs.KindLemmas.{kind_of, cut, kinds-top_entries}
 use Rattle.job_steps.proofs.Progresses.{item_of}
@@ -37,10 +33,8 @@ have_kinds [] all = tt
 have_kinds (e ∷ es) all = (All-head IsKept e es all, have_kinds es (All-tail IsKept e es all))
 
 -- the entries at the top, of these kinds
-read_kinds : (stack : List StackEntry) (below takes own : List Kind) → takes ≡ own → stack_kinds stack
-    ≡ below ++ takes →
-    All IsKept stack →
-    HaveKinds own (words_of (top_entries (length own) stack))
+read_kinds : (stack : List StackEntry) (below takes own : List Kind) → takes ≡ own →
+    stack_kinds stack ≡ below ++ takes → All IsKept stack → HaveKinds own (words_of (top_entries (length own) stack))
 read_kinds stack below takes own t e all =
     let parts = cut stack below own (e ∙ ap (λ ks. below ++ ks) t) in
     let tops = top_entries (length own) stack in
@@ -48,41 +42,24 @@ read_kinds stack below takes own t e all =
     (have_kinds tops (All-reverse IsKept (take (length own) stack) (All-take IsKept (length own) stack all)))
 
 sources_kinds : (signatures : List Signature) (task : Task) (item : Item) (takes gives below : List Kind)
-    (stack : List StackEntry) → IsBodyInstruction item →
-    Turns (scope_of signatures task.verified.program) item takes gives → stack_kinds stack ≡ below ++ takes →
-    All IsKept stack →
+    (stack : List StackEntry) → IsBodyInstruction item → Turns (scope_of signatures task.verified.program) item takes
+    gives → stack_kinds stack ≡ below ++ takes → All IsKept stack →
     HaveKinds (source_kinds (op_of item)) (sources_of item stack)
-sources_kinds signatures task (Const k list) takes gives below stack own t e all = (own, tt)
-sources_kinds signatures task (Elementwise x) takes gives below stack own t e all =
-    read_kinds stack below takes (operand_kinds (op.Elementwise x)) t.0 e all
-sources_kinds signatures task (Segmented x) takes gives below stack own t e all =
-    read_kinds stack below takes (operand_kinds (op.Segmented x)) t.0 e all
-sources_kinds signatures task If takes gives below stack own t e all = absurd own
-sources_kinds signatures task (Move motion lower upper) takes gives below stack own t e all = tt
-sources_kinds signatures task (Call name) takes gives below stack own t e all = tt
-sources_kinds signatures task Return takes gives below stack own t e all = absurd own
+sources_kinds signatures task item takes gives below stack own t e all = grind (arith, read_kinds)
 
 -- the next instruction's
 next_kinds : (signatures : List Signature) (task : Task) (results : List Kind) (rest : Body) (ret : ℕ)
-    (outer : List Active) (stack : List StackEntry) →
-    AreTyped (scope_of signatures task.verified.program) results (record { rest = rest; ret = ret } ∷ outer)
-    (stack_kinds stack) → All IsKept stack →
+    (outer : List Active) (stack : List StackEntry) → AreTyped (scope_of signatures task.verified.program) results
+    (record { rest = rest; ret = ret } ∷ outer) (stack_kinds stack) → All IsKept stack →
     HaveKinds (source_kinds (op_of (first_item rest ret).item)) (sources_of (first_item rest ret).item stack)
 next_kinds signatures task results End ret outer stack t all = tt
 next_kinds signatures task results (Do item line rest) ret outer stack (below, own, gives, e, h, proper, out) all =
-    sources_kinds signatures task item h.1 h.2 (below ++ h.0) stack proper.0 h.3 (e
-    ∙ (ap (λ ks. below ++ ks) h.4 ∙ sym (append_assoc below h.0 h.1))) all
-next_kinds signatures task results (Choice line first second end rest) ret outer stack (
-  below,
-  own,
-  gives,
-  e,
-  h,
-  proper,
-  out,
-) all =
-    read_kinds stack (below ++ h.0) (kind.Bool ∷ []) (kind.Bool ∷ []) refl (e
-    ∙ (ap (λ ks. below ++ ks) h.2 ∙ sym (append_assoc below h.0 (kind.Bool ∷ [])))) all
+    sources_kinds signatures task item h.1 h.2 (below ++ h.0) stack proper.0 h.3
+    (e ∙ (ap (λ ks. below ++ ks) h.4 ∙ sym (append_assoc below h.0 h.1))) all
+next_kinds signatures task results (Choice line first second end rest) ret outer stack
+    (below, own, gives, e, h, proper, out) all =
+    read_kinds stack (below ++ h.0) (kind.Bool ∷ []) (kind.Bool ∷ []) refl
+    (e ∙ (ap (λ ks. below ++ ks) h.2 ∙ sym (append_assoc below h.0 (kind.Bool ∷ [])))) all
 
 -- ---- states
 
@@ -91,8 +68,7 @@ new_kept next [] all = All-nil IsKept
 new_kept next (v ∷ vs) all =
     grind (arith, All-cons, All-head, All-tail, (new_kept (next + 1) vs (All-tail HasItsKind v vs all)))
 
-kinds_at : (signatures : List Signature) (task : Task) (s : State) → IsTyped signatures task s →
-    All IsKept s.stack →
+kinds_at : (signatures : List Signature) (task : Task) (s : State) → IsTyped signatures task s → All IsKept s.stack →
     (call : Active) (outer : List Active) → s.calls ≡ call ∷ outer →
     HaveKinds (source_kinds (op_of (item_of call))) (sources_of (item_of call) s.stack)
 kinds_at signatures task s t k call outer calls =

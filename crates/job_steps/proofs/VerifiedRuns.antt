@@ -1,28 +1,19 @@
 -- What verified jobs reach, and how they end.
-use Rattle.std.proofs.Common.{◌≡◌, ℕ, ◌+◌, Bool, List, [], ◌∷◌, map, refl, sym}
-use Rattle.std.proofs.Common.{◌∙◌, ap, subst, arith, zero, suc}
-use Rattle.std.specs.Prelude.{reverse}
-use Rattle.vcode_base.specs.declared.kind.Kind.{Kind}
+use Rattle.std.proofs.Common.{◌≡◌, ℕ, ◌+◌, List, [], ◌∷◌, map, refl, sym, ◌∙◌, ap, arith, zero, suc}
 use Rattle.vcode_base.specs.declared.outcome.Outcome.TheVariants.{Returned}
-use Rattle.vcode_base.specs.declared.rule.Rule.{Rule}
 use Rattle.vcode_base.specs.Laws.{ResultsHaveNeededLengths}
-use Rattle.vcode_reader.specs.Trees.{Item, Body, End, Do, Choice}
 use Rattle.signatures.specs.Signatures.{Signature}
-use Rattle.verifier.specs.Kinded.{scope_of}
-use Rattle.verifier.specs.Typed.{TypedProgram}
-use Rattle.job_steps.specs.Reached.{IsVerifiedProgram, IsVerifiedTask, AreTyped, IsReached, IsWithin}
+use Rattle.job_steps.specs.Reached.{IsVerifiedTask, IsReached, IsWithin}
 use Rattle.job_steps.specs.Runs.{progress_from, state_after, whole_run, outcome, executed_count, peak}
-use Rattle.job_steps.specs.States.{Vector, Task, StackEntry, Active, State, values_of, stack_kinds}
-use Rattle.job_steps.specs.Steps.{Progress, Running, Over, Stuck, calls_after, progress_past}
-use Rattle.job_steps.specs.Steps.{next_progress}
+use Rattle.job_steps.specs.States.{Vector, Task, StackEntry, State, values_of}
+use Rattle.job_steps.specs.Steps.{Progress, Running, Over, Stuck, next_progress}
 use Rattle.job_steps.proofs.Bounds.{bounded, over_running}
 use Rattle.job_steps.proofs.KindLemmas.{kind_of, map-reverse}
-use Rattle.job_steps.proofs.Progresses.{item_of, calls_then, IsNoReturn, Goes, Ends, Idles, Blocks, Executes, goes}
-use Rattle.job_steps.proofs.RunLaws.{within, over_stuck, same_over}
+use Rattle.job_steps.proofs.Progresses.{item_of, calls_then, Goes, goes}
+use Rattle.job_steps.proofs.RunLaws.{within, over_stuck}
 use Rattle.job_steps.proofs.Typed.{IsTyped, typed, never_stuck}
 
-pub reached : ResultsHaveNeededLengths → (signatures : List Signature) (task : Task) →
-    IsVerifiedTask signatures task →
+pub reached : ResultsHaveNeededLengths → (signatures : List Signature) (task : Task) → IsVerifiedTask signatures task →
     (n : ℕ) (s : State) → state_after task n ≡ Running s → IsReached signatures task n s
 reached law signatures task v n s e =
     let b = bounded law task n s e in
@@ -57,59 +48,20 @@ each_ends law signatures task v = ends_by law signatures task v (whole_run task)
 
 -- ---- the kinds of results
 
-some_none : {T : Type 0} (x : T) (xs : List T) → x ∷ xs ≡ [] → ⊥
-some_none x xs e = cc
-
--- the last call returns with the results
-last_kinds : (signatures : List Signature) (verified : TypedProgram) → IsVerifiedProgram signatures verified →
-    (results : List Kind) (flag : Bool) (rest : Body) (ret : ℕ) (outer : List Active) (kinds : List Kind) →
-    AreTyped (scope_of signatures verified.program) results (record { rest = rest; ret = ret } ∷ outer) kinds →
-    calls_after verified flag rest ret outer ≡ [] → kinds ≡ results
-last_kinds signatures verified v results flag End ret outer kinds (below, own, gives, e, same, proper, out) none =
-    grind arith
-last_kinds signatures verified v results flag (Do item line rest) ret outer kinds (below, own, gives, e, h, proper, out)
-    none = grind arith
-last_kinds signatures verified v results flag (Choice line first second end rest) ret outer kinds (
-  below,
-  own,
-  gives,
-  e,
-  h,
-  proper,
-  out,
-) none = absurd (some_none _ outer none)
-
 kinds-values : (stack : List StackEntry) → map (λ (v : Vector). v.kind) (values_of stack) ≡ map kind_of stack
 kinds-values [] = refl
 kinds-values (e ∷ es) = ap (λ ks. kind_of e ∷ ks) (kinds-values es)
 
-kinds-returned : (stack : List StackEntry) → map (λ (v : Vector). v.kind) (reverse (values_of stack))
-    ≡ stack_kinds stack
-kinds-returned stack = map-reverse (λ (v : Vector). v.kind) (values_of stack) ∙ ap reverse (kinds-values stack)
-
-returned_past : (rule : Rule) (item : Item) (s : State) (calls : List Active) (values : List Vector) (x p : ℕ) →
-    progress_past rule item s calls ≡ Over (Returned values) x p →
-    (calls ≡ []) × (reverse (values_of s.stack) ≡ values)
-returned_past rule item s [] values x p e = grind arith
-returned_past rule item s (last ∷ others) values x p e = absurd (over_running _ _ _ _ (sym e))
-
 returned_by : (signatures : List Signature) (task : Task) (s : State) → IsVerifiedTask signatures task →
-    IsTyped signatures task s → (q : Progress) → Goes task s q →
-    (values : List Vector) (x p : ℕ) → q ≡ Over (Returned values) x p →
-    map (λ (v : Vector). v.kind) values ≡ task.verified.results
-returned_by signatures task s v t q (Ends ending early is) values x p e =
-    absurd (subst IsNoReturn (same_over ending (Returned values) s.executed s.peak x p (sym is ∙ e)).ending early)
-returned_by signatures task s v t q (Idles none is) values x p e = absurd (over_stuck _ x p (sym e ∙ is))
-returned_by signatures task s v t q (Blocks call outer calls blocked is) values x p e = cc
-returned_by signatures task s v t q (Executes call outer passes is) values x p e =
-    grind (arith, returned_past, item_of, calls_then, kinds-returned, last_kinds)
+    IsTyped signatures task s → (q : Progress) → Goes task s q → (values : List Vector) (x p : ℕ) →
+    q ≡ Over (Returned values) x p → map (λ (v : Vector). v.kind) values ≡ task.verified.results
+returned_by signatures task s v t q h6 values x p e =
+    grind (arith, over_stuck, over_running, item_of, calls_then, map-reverse, kinds-values)
 
-returned_from : (signatures : List Signature) (task : Task) → IsVerifiedTask signatures task →
-    (n : ℕ) (q : Progress) → state_after task n ≡ q →
-    ((values : List Vector) (x p : ℕ) → state_after task n ≡ Over (Returned values) x p →
-    map (λ (v : Vector). v.kind) values ≡ task.verified.results) →
-    (values : List Vector) (x p : ℕ) → progress_from task q ≡ Over (Returned values) x p →
-    map (λ (v : Vector). v.kind) values ≡ task.verified.results
+returned_from : (signatures : List Signature) (task : Task) → IsVerifiedTask signatures task → (n : ℕ) (q : Progress) →
+    state_after task n ≡ q → ((values : List Vector) (x p : ℕ) → state_after task n ≡ Over (Returned values) x p →
+    map (λ (v : Vector). v.kind) values ≡ task.verified.results) → (values : List Vector) (x p : ℕ) →
+    progress_from task q ≡ Over (Returned values) x p → map (λ (v : Vector). v.kind) values ≡ task.verified.results
 returned_from signatures task v n (Running s) is before values x p e =
     returned_by signatures task s v (typed signatures task v n s is) (next_progress task s) (goes task s) values x p e
 returned_from signatures task v n (Over ending y q) is before values x p e = before values x p (is ∙ e)

@@ -1,5 +1,4 @@
-use Rattle.std.proofs.Common.{arith}
-use Rattle.std.proofs.Common.{◌≡◌}
+use Rattle.std.proofs.Common.{arith, ◌≡◌}
 use Rattle.job_memory.specs.JobBlocks.{ChangesOnlyOf}
 use Rattle.job_slots.specs.Slots.{standing_of}
 use Rattle.job_steps.specs.Standings.{Ended, Collected}
@@ -16,9 +15,8 @@ run_slot-requires-clause-numbers g c = grind (arith, lane_numbers)
 collected : (g : Over) (c : In_ok-collect g) → standing_of c.collect.new.self ≡ Collected
 collected g c =
     let task = ruled c.args.rule c.args.job.now in
-    let ended : standing_of c.run_slot.new.slot ≡ Ended =
-    has_ended 1 task (standing_of c.admit.new.self) (standing_of c.run_slot.new.slot) c.run_slot.ensures.ran
-    c.in-Ok.ensures.admitted c.run_slot.ensures.over in
+    let ended : standing_of c.run_slot.new.slot ≡ Ended = has_ended 1 task (standing_of c.admit.new.self)
+    (standing_of c.run_slot.new.slot) c.run_slot.ensures.ran c.in-Ok.ensures.admitted c.run_slot.ensures.over in
     collected_by 1 task (standing_of c.run_slot.new.slot) (standing_of c.collect.new.self) ended
     c.in_ok-collect.ensures.standing
 
@@ -26,10 +24,8 @@ collected g c =
 changes : (g : Over) (c : In_ok-collect g) → ChangesOnlyOf 1 c.args.blocks.now c.collect.new.blocks
 changes g c =
     let join = c.changes_join.ensures 1 in
-    join.both c.args.blocks.now c.run_slot.new.blocks c.collect.new.blocks
-    (join.both c.args.blocks.now c.admit.new.blocks c.run_slot.new.blocks c.admit.ensures.others
-    c.run_slot.ensures.others)
-    c.collect.ensures.others
+    join.both c.args.blocks.now c.run_slot.new.blocks c.collect.new.blocks (join.both c.args.blocks.now
+    c.admit.new.blocks c.run_slot.new.blocks c.admit.ensures.others c.run_slot.ensures.others) c.collect.ensures.others
 
 pub returns-clause-end : goal.returns-clause-end
 returns-clause-end g c =

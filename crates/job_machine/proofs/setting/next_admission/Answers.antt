@@ -1,8 +1,8 @@
+-- What the loop answers at a place is what the definitions answer from that place on.
 use Rattle.std.proofs.Common.{◌+◌, Bool, get_or, sym, ◌∙◌, ap, arith}
 use Rattle.vcode_base.specs.declared.limits.Limits.{Limits}
 use Rattle.job_machine.proofs.Admissions.{has_heads, some_heads, rest_at, fits_by, past_by, rest_skips, rest_admits}
-use Rattle.job_machine.proofs.Admissions.{rest_stops}
-use Rattle.job_machine.proofs.Admissions.{rest_passes, rest_ends}
+use Rattle.job_machine.proofs.Admissions.{rest_stops, rest_passes, rest_ends}
 use Rattle.job_machine.proofs.setting.next_admission.Goals as goal
 use Rattle.job_machine.proofs.setting.next_admission.Goals.{then-waits+else-fits+else-passes-place-ge-MOST_PASSES}
 use Rattle.job_machine.proofs.setting.next_admission.Goals.{else-waits}
@@ -19,9 +19,8 @@ returns-then-fits g c rule =
     let heads = has_heads jobs slots passes place job slot 0 c.loop-place-test.true c.requires.slots c.requires.passes
     c.index-jobs-place.is c.index-slots-place.is in
     let words = ap (λ (limits : Limits). limits.words) c.limits.ensures in
-    sym (c.loop-place.invariant rule
-    ∙ rest_admits rule blocks jobs slots passes c.loop-place.waiting place (place + 1) job slot (get_or passes place 0)
-    heads (omega arith) (sym c.waits.ensures ∙ c.if-waits.true)
+    sym (c.loop-place.invariant rule ∙ rest_admits rule blocks jobs slots passes c.loop-place.waiting place (place + 1)
+    job slot (get_or passes place 0) heads (omega arith) (sym c.waits.ensures ∙ c.if-waits.true)
     (fits_by c.fits.result _ _ _ job.limits.words c.if-fits.true c.fits.ensures words))
 
 pub returns-then-passes-place-ge-MOST_PASSES : goal.returns-then-passes-place-ge-MOST_PASSES
@@ -36,9 +35,8 @@ returns-then-passes-place-ge-MOST_PASSES g c rule =
     let heads = has_heads jobs slots passes place job slot 0 c.loop-place-test.true c.requires.slots c.requires.passes
     c.index-jobs-place.is c.index-slots-place.is in
     let words = ap (λ (limits : Limits). limits.words) c.limits.ensures in
-    sym (c.loop-place.invariant rule
-    ∙ rest_stops rule blocks jobs slots passes c.loop-place.waiting place job slot (get_or passes place 0) heads
-    (sym c.waits.ensures ∙ c.if-waits.true)
+    sym (c.loop-place.invariant rule ∙ rest_stops rule blocks jobs slots passes c.loop-place.waiting place job slot
+    (get_or passes place 0) heads (sym c.waits.ensures ∙ c.if-waits.true)
     (past_by c.fits.result _ _ _ job.limits.words c.if-fits.false c.fits.ensures words)
     c.if-passes-place-ge-MOST_PASSES.true)
 

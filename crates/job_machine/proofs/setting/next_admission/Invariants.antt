@@ -6,5 +6,5 @@ use Rattle.job_machine.proofs.setting.next_admission.Given as goal
 
 abbrev pub invariant-loop-place : goal.invariant-loop-place
 invariant-loop-place g l =
-    (rule : Rule) → next_by rule l.blocks l.jobs l.slots l.passes
-    ≡ rest_at rule l.blocks l.jobs l.slots l.passes l.waiting l.place
+    (rule : Rule) → next_by rule l.blocks l.jobs l.slots l.passes ≡ rest_at rule l.blocks l.jobs l.slots l.passes
+    l.waiting l.place

@@ -1,3 +1,4 @@
+-- The passes before a place are those of the definitions, one place more at each turn of the loop.
 use Rattle.std.proofs.Common.{◌+◌, ◌≡◌, length, refl, sym, ◌∙◌, ap, arith}
 use Rattle.std.proofs.lemmas.List.{length-map}
 use Rattle.std.proofs.lemmas.Option.{slice_get_read}

@@ -1,5 +1,4 @@
-use Rattle.std.proofs.Common.{rules}
-use Rattle.std.proofs.Common.{arith}
+use Rattle.std.proofs.Common.{rules, arith}
 use Rattle.job_steps.proofs.QuestionLemmas.{can_answer_in_front}
 use Rattle.job_steps.proofs.filled.fill_results.Goals as goal
 

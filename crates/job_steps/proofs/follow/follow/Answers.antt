@@ -1,11 +1,11 @@
+-- For each kind of instruction: the frames after it are at the calls that the instruction leads to.
 use Rattle.std.proofs.Common.{◌≡◌, ◌∙◌, inl, inr, true, List, ◌∷◌, drop, ap, sym, subst}
 use Rattle.vcode_reader.specs.Trees.{Function}
 use Rattle.job_steps.specs.declared.frame.Frame.{Frame}
 use Rattle.job_steps.specs.Piles.{PileState}
 use Rattle.job_steps.specs.Tracks.{Follow, functions_of}
 use Rattle.job_steps.proofs.Following.{IsBehind, IsChosen, call_is, follow_call, follow_if, follow_plain, follow_return}
-use Rattle.job_steps.proofs.Following.{is_plain, inner_settled, inner_stands, same_functions}
-use Rattle.job_steps.proofs.Following.{stop_top}
+use Rattle.job_steps.proofs.Following.{is_plain, inner_settled, inner_stands, same_functions, stop_top}
 use Rattle.job_steps.proofs.follow.follow.Goals as goal
 
 pub chosen-requires-clause-stands : goal.chosen-requires-clause-stands
@@ -19,9 +19,8 @@ chosen-requires-clause-stands g c =
 pub called-callee-requires-clause-called : goal.called-callee-requires-clause-called
 called-callee-requires-clause-called g c =
     let verified = c.args.job.now.verified in
-    let called =
-    call_is verified c.args.frames.now.entries c.at-frame.result c.at-frame.ensures c.args.op c.args.frames.now.room
-    c.requires.can c.requires.settled c.in-Call.is in
+    let called = call_is verified c.args.frames.now.entries c.at-frame.result c.at-frame.ensures c.args.op
+    c.args.frames.now.room c.requires.can c.requires.settled c.in-Call.is in
     (called.name, called.callee, called.is)
 
 pub next-requires-clause-stands : goal.next-requires-clause-stands
@@ -47,8 +46,8 @@ returns-in-If-clause-frames g c =
     let frame = c.at-frame.result in
     let same = same_functions c.program-program.result.now c.verified.result.now verified c.program-program.ensures.same
     c.verified.ensures.same in
-    let chosen : IsChosen (functions_of verified) c.args.flag frame c.chosen.result =
-    subst (λ (fs : List Function). IsChosen fs c.args.flag frame c.chosen.result) same c.chosen.ensures in
+    let chosen : IsChosen (functions_of verified) c.args.flag frame c.chosen.result = subst
+    (λ (fs : List Function). IsChosen fs c.args.flag frame c.chosen.result) same c.chosen.ensures in
     subst (λ (xs : List Frame). Follow verified c.args.flag frames xs)
     (sym (ap (λ (p : PileState Frame). p.entries) c.replace_top.ensures))
     (follow_if verified frames frame c.at-frame.ensures c.args.op c.args.frames.now.room c.requires.can
@@ -70,11 +69,11 @@ returns-in-Call-clause-frames g c =
     let frame = c.at-frame.result in
     let same = same_functions c.program-program.result.now c.verified.result.now verified c.program-program.ensures.same
     c.verified.ensures.same in
-    let behind : IsBehind (functions_of verified) frame c.next.result =
-    subst (λ (fs : List Function). IsBehind fs frame c.next.result) same c.next.ensures in
-    let now : c.push.new.self.entries ≡ c.called-callee.result ∷ c.next.result ∷ drop 1 frames =
-    ap (λ (p : PileState Frame). p.entries) c.push.ensures
-    ∙ ap (λ (p : PileState Frame). c.called-callee.result ∷ p.entries) c.replace_top-in-Call.ensures in
+    let behind : IsBehind (functions_of verified) frame c.next.result = subst
+    (λ (fs : List Function). IsBehind fs frame c.next.result) same c.next.ensures in
+    let now : c.push.new.self.entries ≡ c.called-callee.result ∷ c.next.result ∷ drop 1 frames = ap
+    (λ (p : PileState Frame). p.entries) c.push.ensures ∙ ap
+    (λ (p : PileState Frame). c.called-callee.result ∷ p.entries) c.replace_top-in-Call.ensures in
     subst (λ (xs : List Frame). Follow verified c.args.flag frames xs) (sym now)
     (follow_call verified frames frame c.at-frame.ensures c.args.op c.args.frames.now.room c.requires.can
     c.requires.settled c.in-Call.is c.args.flag c.next.result c.called-callee.result behind c.called-callee.ensures)

@@ -7,17 +7,14 @@ returns-in-Do g c = grind (arith, stop_here)
 
 pub returns-in-Else : goal.returns-in-Else
 returns-in-Else g c =
-    else_here c.args.function.now c.args.place c.in_ok-item.field-0 c.in_ok-item.ensures
-    c.each_target_is_first.ensures c.in-Else.is c.target.result c.target.ensures
+    else_here c.args.function.now c.args.place c.in_ok-item.field-0 c.in_ok-item.ensures c.each_target_is_first.ensures
+    c.in-Else.is c.target.result c.target.ensures
 
 pub returns-in-Endif : goal.returns-in-Endif
-returns-in-Endif g c =
-    endif_here c.args.function.now c.args.place c.in_ok-item.field-0 c.in_ok-item.ensures c.in-Endif.is
+returns-in-Endif g c = grind (arith, endif_here)
 
 pub returns-in_err-item : goal.returns-in_err-item
-returns-in_err-item g c =
-    rw c.from_residual.ensures (stop_past_end c.args.function.now c.args.place c.in_err-item.ensures)
+returns-in_err-item g c = grind (arith, stop_past_end)
 
 pub overflow_add-result : goal.overflow_add-result
-overflow_add-result g c =
-    omega (arith, within_lines c.args.function.now c.args.place c.in_ok-item.field-0 c.in_ok-item.ensures)
+overflow_add-result g c = grind (arith, within_lines)

@@ -21,9 +21,8 @@ returns g c =
     let own = c.index-as_slice-self.result in
     let read : c.as_slice.result.now ≡ jobs = c.as_slice.ensures.value ∙ ap (λ v. v.items) c.deref.ensures in
     let is = is_number rule jobs c.self.inside.number c.self.invariant.task c.self.invariant.task_is in
-    let at : own ≡ get_or jobs (c.self.inside.number - 1) own =
-    subst (λ (js : List JobValue). own ≡ get_or js (c.self.inside.number - 1) own) read c.index-as_slice-self.is in
+    let at : own ≡ get_or jobs (c.self.inside.number - 1) own = subst
+    (λ (js : List JobValue). own ≡ get_or js (c.self.inside.number - 1) own) read c.index-as_slice-self.is in
     of_same_rule c.args.self.now.task rule c.args.rule own c.args.job.now c.equal_jobs.result
-    (sym (ap (λ (e : EndedState). e.task) c.self.view_is)
-    ∙ task_of rule jobs c.self.inside.number own is.least is.within at)
-    (c.same_rule.ensures.0 c.if-not-same_rule.false) c.equal_jobs.ensures
+    (sym (ap (λ (e : EndedState). e.task) c.self.view_is) ∙ task_of rule jobs c.self.inside.number own is.least
+    is.within at) (c.same_rule.ensures.0 c.if-not-same_rule.false) c.equal_jobs.ensures

@@ -1,3 +1,4 @@
+-- A job that runs alone on a lane ends, is collected, and leaves the region without a job.
 use Rattle.std.proofs.Common.{◌≡◌, ◌-◌, ◌<◌, ◌≤◌, ℕ, List, length, get_or, map, All, ap, sym, subst, ◌∙◌, arith}
 use Rattle.std.specs.Arc.{arc_value}
 use Rattle.std.proofs.lemmas.List.{length-map}
@@ -9,19 +10,16 @@ use Rattle.job_machine.proofs.lane.Lane.run.Goals as goal
 use Rattle.job_machine.proofs.lane.Lane.run.Goals.{After-index-as_slice-job}
 
 -- the number is that of a job
-within : (g : Over) (c : After-index-as_slice-job g) →
-    c.args.job - 1 < length (arc_value c.self.inside.jobs).items
+within : (g : Over) (c : After-index-as_slice-job g) → c.args.job - 1 < length (arc_value c.self.inside.jobs).items
 within g c = grind (arith, length-map)
 
 -- the job is the one of that number
-own : (g : Over) (c : After-index-as_slice-job g) →
-    c.index-as_slice-job.result
-    ≡ get_or (arc_value c.self.inside.jobs).items (c.args.job - 1) c.index-as_slice-job.result
+own : (g : Over) (c : After-index-as_slice-job g) → c.index-as_slice-job.result ≡ get_or
+    (arc_value c.self.inside.jobs).items (c.args.job - 1) c.index-as_slice-job.result
 own g c =
-    let read : c.as_slice.result.now ≡ (arc_value c.self.inside.jobs).items =
-    c.as_slice.ensures.value ∙ ap (λ v. v.items) c.deref.ensures in
-    subst
-    (λ (js : List JobValue). c.index-as_slice-job.result ≡ get_or js (c.args.job - 1) c.index-as_slice-job.result)
+    let read : c.as_slice.result.now ≡ (arc_value c.self.inside.jobs).items = c.as_slice.ensures.value ∙ ap
+    (λ v. v.items) c.deref.ensures in
+    subst (λ (js : List JobValue). c.index-as_slice-job.result ≡ get_or js (c.args.job - 1) c.index-as_slice-job.result)
     read c.index-as_slice-job.is
 
 pub run_apart-requires-clause-room : goal.run_apart-requires-clause-room

@@ -1,4 +1,5 @@
-use Rattle.std.proofs.Common.{◌≡◌, ◌-◌, length, ap, sym, refl, ◌∙◌, subst, arith, map}
+-- What is answered is the admission of the definitions, and the job that is admitted takes its turn by it.
+use Rattle.std.proofs.Common.{◌≡◌, ◌-◌, length, ap, sym, refl, ◌∙◌, subst, arith}
 use Rattle.std.proofs.lemmas.List.{length-map, with_items_is}
 use Rattle.std.specs.Arc.{arc_value}
 use Rattle.std.specs.Vec.{with_items}
@@ -7,9 +8,9 @@ use Rattle.job_steps.specs.States.{ruled}
 use Rattle.job_machine.specs.Admissions.{next_by}
 use Rattle.job_machine.specs.Machines.{admission_in}
 use Rattle.job_machine.specs.Sound.{standings_of}
-use Rattle.job_machine.proofs.Admitting.{answer_is, nobody_state, IsAdmitted, is_admitted, HasOwnPlace, admitted_place}
-use Rattle.job_machine.proofs.Admitting.{HasNext, has_next, granted_ok, admitted_sound, admitted_state}
-use Rattle.job_machine.proofs.TurnLemmas.{task_read, turn_shows, turn_sound}
+use Rattle.job_machine.proofs.Admitting.{answer_is, nobody_state, IsAdmitted, is_admitted, admitted_place, HasNext}
+use Rattle.job_machine.proofs.Admitting.{has_next, granted_ok, admitted_sound, admitted_state}
+use Rattle.job_machine.proofs.TurnLemmas.{parts, task_read, turn_shows, turn_sound}
 use Rattle.job_machine.proofs.machine.Machine.admit.Given.{Over}
 use Rattle.job_machine.proofs.machine.Machine.admit.Goals as goal
 use Rattle.job_machine.proofs.machine.Machine.admit.Goals.{After-next_admission-next, In-Admitted, After-job_at}
@@ -37,14 +38,12 @@ next_admission-next-requires-clause-passes g c =
     )
 
 -- the answer is the machine's admission
-answer : (g : Over) (c : goal.After-next_admission-next g) →
-    c.next_admission-next.result ≡ admission_in c.args.self.now
+answer : (g : Over) (c : goal.After-next_admission-next g) → c.next_admission-next.result ≡ admission_in c.args.self.now
 answer g c =
-    let rule = c.self.inside.rule in
     let jobs_are = c.as_slice.ensures.value ∙ ap (λ v. v.items) c.deref.ensures in
-    answer_is (arc_value c.self.inside.jobs).items c.self.invariant c.self.view_is c.next_admission-next.result
-    (c.next_admission-next.ensures rule
-    ∙ (λ i. next_by rule c.self.inside.blocks (jobs_are i) (c.as_slice-2.ensures.value i)
+    answer_is c.self.inside c.self.invariant c.self.view_is c.next_admission-next.result
+    (c.next_admission-next.ensures c.self.inside.rule ∙
+    (λ i. next_by c.self.inside.rule c.self.inside.blocks (jobs_are i) (c.as_slice-2.ensures.value i)
     (c.as_slice-3.ensures.value i)))
 
 pub returns-in_default : goal.returns-in_default
@@ -52,30 +51,24 @@ returns-in_default g c =
     let is = answer g (goal.at.returns-in_default g c).After-next_admission-next in
     record {
       answer = is;
-      state = nobody_state c.args.self.now c.next_admission-next.result is
-          c.in_default.not-Admitted;
+      state = nobody_state c.args.self.now c.next_admission-next.result is c.in_default.not-Admitted;
     }
 
 -- the job is the one that is admitted
 next : (g : Over) (c : goal.In-Admitted g) → c.next_admission-next.result ≡ admission_in c.args.self.now →
-    IsAdmitted c.self.inside.blocks (map (ruled c.self.inside.rule) (arc_value c.self.inside.jobs).items)
-    c.self.inside.slots.items c.self.inside.passes.items c.in-Admitted.job
+    IsAdmitted (parts c.self.inside) c.in-Admitted.job
 next g c is = is_admitted c.admission_laws.ensures.room c.self.view_is c.in-Admitted.job (sym is ∙ c.in-Admitted.is)
-
-own : (g : Over) (c : goal.In-Admitted g) → c.next_admission-next.result ≡ admission_in c.args.self.now →
-    HasOwnPlace (length (map (ruled c.self.inside.rule) (arc_value c.self.inside.jobs).items)) c.in-Admitted.job
-own g c is = admitted_place (next g c is)
 
 pub overflow_sub-place : goal.overflow_sub-place
 overflow_sub-place g c =
     let at = goal.at.overflow_sub-place g c in
-    (own g at.In-Admitted (answer g at.After-next_admission-next)).first
+    (admitted_place (next g at.In-Admitted (answer g at.After-next_admission-next))).first
 
 pub pass_before-requires-clause-within : goal.pass_before-requires-clause-within
 pass_before-requires-clause-within g c =
     let at = goal.at.pass_before-requires-clause-within g c in
-    let within = (own g at.In-Admitted (answer g at.After-next_admission-next)).within in
-    omega (arith, within, ap length c.as_slice-4.ensures.value, c.self.invariant.slots_are)
+    let here = admitted_place (next g at.In-Admitted (answer g at.After-next_admission-next)) in
+    omega (arith, here.within, ap length c.as_slice-4.ensures.value, c.self.invariant.slots_are)
 
 pub pass_before-requires-clause-few : goal.pass_before-requires-clause-few
 pass_before-requires-clause-few g c = subst AreFew (sym c.as_mut_slice.ensures.value) c.self.invariant.few_passes
@@ -83,37 +76,30 @@ pass_before-requires-clause-few g c = subst AreFew (sym c.as_mut_slice.ensures.v
 pub index_mut-slot-requires : goal.index_mut-slot-requires
 index_mut-slot-requires g c =
     let at = goal.at.index_mut-slot-requires g c in
-    let here = own g at.In-Admitted (answer g at.After-next_admission-next) in
+    let here = admitted_place (next g at.In-Admitted (answer g at.After-next_admission-next)) in
     omega (arith, here.first, here.within, c.self.invariant.slots_are, c.self.inside.slots.ok)
 
 pub job_at-requires : goal.job_at-requires
 job_at-requires g c =
     let at = goal.at.job_at-requires g c in
-    let here = own g at.In-Admitted (answer g at.After-next_admission-next) in
+    let here = admitted_place (next g at.In-Admitted (answer g at.After-next_admission-next)) in
     omega (arith, here.first, here.within, length-map (arc_value c.self.inside.jobs).items (ruled c.self.inside.rule))
 
 -- it has the turn
-turn : (g : Over) (c : goal.After-job_at g) →
-    IsAdmitted c.self.inside.blocks (map (ruled c.self.inside.rule) (arc_value c.self.inside.jobs).items)
-    c.self.inside.slots.items c.self.inside.passes.items c.in-Admitted.job →
-    HasNext c.self.inside.blocks (map (ruled c.self.inside.rule) (arc_value c.self.inside.jobs).items)
-    c.self.inside.slots.items c.self.inside.passes.items c.args.self.now c.in-Admitted.job (c.in-Admitted.job - 1)
+turn : (g : Over) (c : goal.After-job_at g) → IsAdmitted (parts c.self.inside) c.in-Admitted.job →
+    HasNext (parts c.self.inside) c.args.self.now c.in-Admitted.job (c.in-Admitted.job - 1)
     (ruled c.self.inside.rule c.job_at.result.now) c.index_mut-slot.result.now
 turn g c next =
-    let rule = c.self.inside.rule in
     let jobs = (arc_value c.self.inside.jobs).items in
     let place = c.in-Admitted.job - 1 in
-    let job = c.job_at.result.now in
-    has_next c.in-Admitted.job place (ruled rule job) c.index_mut-slot.result.now c.self.invariant c.self.view_is
-    next refl
-    (task_read rule jobs place job c.job_at.ensures)
-    c.index_mut-slot.ensures.value
+    has_next place _ _ c.self.invariant c.self.view_is next refl
+    (task_read c.self.inside.rule jobs place c.job_at.result.now c.job_at.ensures) c.index_mut-slot.ensures.value
 
 pub admit-granted-requires-clause-shows : goal.admit-granted-requires-clause-shows
 admit-granted-requires-clause-shows g c =
     let at = goal.at.admit-granted-requires-clause-shows g c in
-    turn_shows c.self.invariant
-    (turn g at.After-job_at (next g at.In-Admitted (answer g at.After-next_admission-next))).turn
+    turn_shows (turn g at.After-job_at (next g at.In-Admitted (answer g at.After-next_admission-next))).turn
+    c.self.invariant
 
 pub admit-granted-requires-clause-waits : goal.admit-granted-requires-clause-waits
 admit-granted-requires-clause-waits g c =
@@ -121,18 +107,16 @@ admit-granted-requires-clause-waits g c =
     (turn g at.After-job_at (next g at.In-Admitted (answer g at.After-next_admission-next))).waits
 
 -- the passes that are left
-late : (g : Over) (c : goal.After-job_at g) →
-    (with_items c.self.inside.passes c.pass_before.new.passes).items
-    ≡ passes_before (c.in-Admitted.job - 1) (standings_of c.self.inside.slots.items) c.self.inside.passes.items
+late : (g : Over) (c : goal.After-job_at g) → (with_items c.self.inside.passes c.pass_before.new.passes).items ≡
+    passes_before (c.in-Admitted.job - 1) (standings_of c.self.inside.slots.items) c.self.inside.passes.items
 late g c = grind (arith, with_items_is)
 
 pub invariant_of-self : goal.invariant_of-self
 invariant_of-self g c =
     let at = goal.at.invariant_of-self g c in
     let has = turn g at.After-job_at (next g at.In-Admitted (answer g at.After-next_admission-next)) in
-    admitted_sound c.admission_laws.ensures.passed c.admission_laws.ensures.few _
-    (with_items c.self.inside.passes c.pass_before.new.passes).items c.self.invariant has (late g at.After-job_at)
-    (turn_sound c.turn_laws.ensures.others c.self.invariant has.turn c.admit-granted.ensures.others
+    admitted_sound has c.admission_laws.ensures.passed _ (late g at.After-job_at) c.admission_laws.ensures.few
+    c.self.invariant (turn_sound has.turn c.turn_laws.ensures.others c.self.invariant c.admit-granted.ensures.others
     c.admit-granted.ensures.shows)
 
 pub returns-clause-answer : goal.returns-clause-answer
@@ -143,8 +127,6 @@ pub returns-clause-state : goal.returns-clause-state
 returns-clause-state g c =
     let at = goal.at.returns-clause-state g c in
     let has = turn g at.After-job_at (next g at.In-Admitted (answer g at.After-next_admission-next)) in
-    admitted_state c.turn_laws.ensures.changed c.admission_laws.ensures.passed c.admit-granted.new.blocks
-    c.admit-granted.new.self (with_items c.self.inside.passes c.pass_before.new.passes).items c.self.view_is has
-    c.admit-granted.ensures.others.memory.room
+    admitted_state has c.admission_laws.ensures.passed _ (late g at.After-job_at) c.turn_laws.ensures.changed
+    c.admit-granted.new.blocks c.admit-granted.new.self c.admit-granted.ensures.others.memory.room
     (granted_ok c.admit-granted.result c.admit-granted.ensures.not_now has.room c.admit-granted.ensures.admitted)
-    (late g at.After-job_at)

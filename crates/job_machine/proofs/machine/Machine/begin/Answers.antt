@@ -1,53 +1,40 @@
-use Rattle.std.proofs.Common.{arith, map}
-use Rattle.std.specs.Arc.{arc_value}
-use Rattle.job_steps.specs.States.{ruled}
-use Rattle.job_machine.proofs.TurnLemmas.{HasTurn, IsLent, is_lent, turn_shows, turn_sound, begins_in}
-use Rattle.job_machine.proofs.TurnLemmas.{begun_state}
+-- A begin moves its job alone; without a job nothing changes.
+use Rattle.std.proofs.Common.{arith}
+use Rattle.job_machine.proofs.TurnLemmas.{TurnOf, is_lent, begins_in, begun_state, turn_shows, turn_sound}
 use Rattle.job_machine.proofs.machine.Machine.begin.Given.{Over}
 use Rattle.job_machine.proofs.machine.Machine.begin.Goals as goal
-use Rattle.job_machine.proofs.machine.Machine.begin.Goals.{In-Some, After-job_at}
-
--- the place is that of a job
-lent : (g : Over) (c : goal.In-Some g) →
-    IsLent c.self.inside.rule (arc_value c.self.inside.jobs).items c.self.inside.slots.items c.args.self.now
-    c.args.job c.in-Some.place
-lent g c =
-    is_lent c.self.inside.blocks (arc_value c.self.inside.jobs).items c.self.inside.slots.items c.args.self.now
-    c.args.job c.in-Some.place c.place.result c.self.invariant c.self.view_is c.place.ensures c.in-Some.is
+use Rattle.job_machine.proofs.machine.Machine.begin.Goals.{After-job_at}
 
 pub index_mut-slot-requires : goal.index_mut-slot-requires
 index_mut-slot-requires g c =
-    omega (arith, (lent g (goal.at.index_mut-slot-requires g c).In-Some).among_slots, c.self.inside.slots.ok)
+    let lent = is_lent c.self.inside c.args.job c.self.invariant c.self.view_is c.place.ensures c.in-Some.is in
+    omega (arith, lent.among_slots, c.self.inside.slots.ok)
 
 pub job_at-requires : goal.job_at-requires
-job_at-requires g c = (lent g (goal.at.job_at-requires g c).In-Some).among_jobs
+job_at-requires g c =
+    (is_lent c.self.inside c.args.job c.self.invariant c.self.view_is c.place.ensures c.in-Some.is).among_jobs
 
 -- the job has the turn
-turn : (g : Over) (c : goal.After-job_at g) →
-    HasTurn (map (ruled c.self.inside.rule) (arc_value c.self.inside.jobs).items) c.self.inside.slots.items
-    c.args.self.now c.args.job c.in-Some.place
-    (ruled c.self.inside.rule c.job_at.result.now) c.index_mut-slot.result.now
+turn : (g : Over) (c : goal.After-job_at g) → TurnOf c.self.inside c.args.self.now c.args.job c.in-Some.place
+    c.job_at.result.now c.index_mut-slot.result.now
 turn g c =
-    (is_lent c.self.inside.blocks (arc_value c.self.inside.jobs).items c.self.inside.slots.items c.args.self.now
-    c.args.job c.in-Some.place c.place.result c.self.invariant c.self.view_is c.place.ensures c.in-Some.is).turn
-    c.job_at.result.now c.index_mut-slot.result.now c.job_at.ensures c.index_mut-slot.ensures.value
+    (is_lent c.self.inside c.args.job c.self.invariant c.self.view_is c.place.ensures c.in-Some.is).turn _ _
+    c.job_at.ensures c.index_mut-slot.ensures.value
 
 pub begin-requires : goal.begin-requires
-begin-requires g c = turn_shows c.self.invariant (turn g (goal.at.begin-requires g c).After-job_at)
+begin-requires g c = turn_shows (turn g (goal.at.begin-requires g c).After-job_at) c.self.invariant
 
 pub invariant_of-self : goal.invariant_of-self
 invariant_of-self g c =
-    turn_sound c.turn_laws.ensures.others c.self.invariant (turn g (goal.at.invariant_of-self g c).After-job_at)
+    turn_sound (turn g (goal.at.invariant_of-self g c).After-job_at) c.turn_laws.ensures.others c.self.invariant
     c.begin.ensures.others c.begin.ensures.shows
 
 pub returns-clause-answer : goal.returns-clause-answer
 returns-clause-answer g c =
-    begins_in c.args.desk c.begin.result (turn g (goal.at.returns-clause-answer g c).After-job_at)
+    begins_in (turn g (goal.at.returns-clause-answer g c).After-job_at) c.args.desk c.begin.result
     c.begin.ensures.answer
 
 pub returns-clause-state : goal.returns-clause-state
 returns-clause-state g c =
-    begun_state c.turn_laws.ensures.changed c.turn_laws.ensures.passes c.self.inside.blocks c.begin.new.blocks
-    c.begin.new.self c.self.view_is
-    (turn g (goal.at.returns-clause-state g c).After-job_at) c.begin.ensures.others.memory.room c.begin.result
-    c.begin.ensures.standing
+    begun_state (turn g (goal.at.returns-clause-state g c).After-job_at) c.begin.new.blocks c.begin.new.self
+    c.begin.ensures.others.memory.room c.turn_laws.ensures c.begin.result c.begin.ensures.standing

@@ -12,8 +12,7 @@ returns-clause-count g c =
     omega (arith, c.len.ensures, c.self.invariant.slots_are, ap (λ (m : MachineState). length m.tasks) c.self.view_is)
 
 pub returns-clause-few : goal.returns-clause-few
-returns-clause-few g c =
-    subst (λ (m : MachineState). length m.tasks ≤ MOST_JOBS) c.self.view_is c.self.invariant.few
+returns-clause-few g c = subst (λ (m : MachineState). length m.tasks ≤ MOST_JOBS) c.self.view_is c.self.invariant.few
 
 pub returns-clause-verified : goal.returns-clause-verified
 returns-clause-verified g c =
@@ -28,7 +27,6 @@ returns-clause-fitting g c =
 
 pub returns-clause-kept : goal.returns-clause-kept
 returns-clause-kept g c =
-    subst (λ (m : MachineState). AreKept m.region m.tasks (queue_of m)) c.self.view_is
-    (are_kept c.shown_is_alone.ensures c.self.inside.blocks
-    (map (ruled c.self.inside.rule) (arc_value c.self.inside.jobs).items)
+    subst (λ (m : MachineState). AreKept m.region m.tasks (queue_of m)) c.self.view_is (are_kept
+    c.shown_is_alone.ensures c.self.inside.blocks (map (ruled c.self.inside.rule) (arc_value c.self.inside.jobs).items)
     c.self.inside.slots.items c.self.invariant c.used-used.ensures.tidy c.granted-granted.ensures.within)

@@ -1,5 +1,4 @@
-use Rattle.std.proofs.Common.{arith}
-use Rattle.std.proofs.Common.{◌≤◌, List, All, subst}
+use Rattle.std.proofs.Common.{arith, ◌≤◌, List, All, subst}
 use Rattle.std.proofs.lemmas.List.Elements.{All-map}
 use Rattle.job_steps.specs.States.{Task, ruled}
 use Rattle.job_machine.proofs.Rules.{most_ruled}

@@ -26,8 +26,7 @@ returns-in-Recall-clause-leads g c =
 pub returns-in_ok-collect-in-Collect-clause-fit : goal.returns-in_ok-collect-in-Collect-clause-fit
 returns-in_ok-collect-in-Collect-clause-fit g c =
     fit_collected c.others_stay.ensures c.args.self.now c.collect.new.self c.args.workbench.now c.in-Collect.job
-    c.requires
-    c.in_ok-collect-in-Collect.ensures.state
+    c.requires c.in_ok-collect-in-Collect.ensures.state
 
 pub returns-in_ok-collect-in-Collect-clause-leads : goal.returns-in_ok-collect-in-Collect-clause-leads
 returns-in_ok-collect-in-Collect-clause-leads g c =

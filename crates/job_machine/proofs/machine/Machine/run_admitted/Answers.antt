@@ -1,3 +1,4 @@
+-- Of each job that does not wait, in order: it is done once it has run, and the jobs before it stay done.
 use Rattle.std.proofs.Common.{◌+◌, ◌∙◌, refl, arith}
 use Rattle.job_steps.specs.Standings.{of_job}
 use Rattle.job_machine.specs.Machines.{IsDone}

@@ -1,3 +1,4 @@
+-- As long as a job is admitted, it runs to its end, which leaves fewer events; when none is, all are collected.
 use Rattle.std.proofs.Common.{◌≤◌, ℕ, All, subst, sym, ◌∙◌, arith}
 use Rattle.job_steps.specs.Standings.{of_job}
 use Rattle.job_machine.specs.Machines.{IsWaitingOrCollected, IsDone}
@@ -16,9 +17,9 @@ loop-job-init g c =
 
 held : (g : Over) (c : goal.In-Admitted g) → Admits c.in-Admitted.job c.loop-job.self c.admit.new.self
 held g c =
-    admits c.admitted_have_room.ensures c.events_keep.ensures c.events_use_up.ensures c.in-Admitted.job
-    c.args.self.now c.loop-job.self c.admit.new.self c.jobs-jobs.ensures.verified c.jobs-jobs.ensures.kept
-    c.loop-job.invariant.0 (sym c.in-Admitted.ensures.answer) c.in-Admitted.ensures.state
+    admits c.admitted_have_room.ensures c.events_keep.ensures c.events_use_up.ensures c.in-Admitted.job c.args.self.now
+    c.loop-job.self c.admit.new.self c.jobs-jobs.ensures.verified c.jobs-jobs.ensures.kept c.loop-job.invariant.0
+    (sym c.in-Admitted.ensures.answer) c.in-Admitted.ensures.state
 
 pub run_job-ran-requires-clause-words : goal.run_job-ran-requires-clause-words
 run_job-ran-requires-clause-words g c =
@@ -32,9 +33,8 @@ run_job-ran-requires-clause-no_step g c =
 
 pub returns-in-Err-ran-clause-leads : goal.returns-in-Err-ran-clause-leads
 returns-in-Err-ran-clause-leads g c =
-    turn_leads c.leads_join.ensures c.in-Admitted.job _ _ _ _ c.loop-job.invariant.0.leads (held g
-    (goal.at.returns-in-Err-ran-clause-leads g c).In-Admitted)
-    c.run_job-ran.ensures.goes_on
+    turn_leads c.leads_join.ensures c.in-Admitted.job _ _ _ _ c.loop-job.invariant.0.leads
+    (held g (goal.at.returns-in-Err-ran-clause-leads g c).In-Admitted) c.run_job-ran.ensures.goes_on
 
 pub returns-in-Err-ran-clause-desk : goal.returns-in-Err-ran-clause-desk
 returns-in-Err-ran-clause-desk g c = c.run_job-ran.ensures.desk ∙ c.loop-job.invariant.1
@@ -59,8 +59,8 @@ ends : (g : Over) (c : goal.In_default-admit g) → AreOut c.args.self.now c.adm
 ends g c =
     out c.leads_join.ensures c.events_go_on.ensures c.events_keep.ensures c.args.self.now c.loop-job.self
     c.admit.new.self c.jobs-jobs.ensures.verified c.jobs-jobs.ensures.kept c.jobs-jobs.ensures.fitting
-    c.loop-job.invariant.0
-    (λ job e. c.in_default-admit.not-Admitted job (c.admit.ensures.answer ∙ e)) c.admit.ensures.state
+    c.loop-job.invariant.0 (λ job e. c.in_default-admit.not-Admitted job (c.admit.ensures.answer ∙ e))
+    c.admit.ensures.state
 
 pub returns : goal.returns
 returns g c = record {

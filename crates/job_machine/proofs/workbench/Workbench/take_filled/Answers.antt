@@ -9,7 +9,5 @@ returns-in_err-other g c = grind (arith, takes_none)
 pub returns-in_default : goal.returns-in_default
 returns-in_default g c =
     takes_other (λ taken. workplace.Holds taken) c.args.job c.args.self.now c.exchange.new.self
-    c.exchange-in_default.new.self
-    c.in_ok-other.other c.in_ok-other.ensures.own c.in_ok-other.ensures.state
-    c.exchange-in_default.ensures.state
-    c.in_default.not-Holds
+    c.exchange-in_default.new.self c.in_ok-other.other c.in_ok-other.ensures.own c.in_ok-other.ensures.state
+    c.exchange-in_default.ensures.state c.in_default.not-Holds
