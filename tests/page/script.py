@@ -20,7 +20,7 @@ STRING = re.compile(r'r##"(.*?)"##', re.S)
 def parts_in(source: str) -> list[str]:
     """The names of the files that a file of Rattle uses, in the order of the list in it."""
     files = dict((name, file) for file, name in re.findall(r"^use crate::(\w+)::(\w+);", source, re.M))
-    return [files[name] for name in re.search(r"= &\[([A-Z_,\s]+)\]", source)[1].replace(",", " ").split()]
+    return [files[name] for name in re.search(r"&\[([A-Z_,\s]+)\]", source)[1].replace(",", " ").split()]
 
 
 def texts() -> Iterator[tuple[str, str]]:

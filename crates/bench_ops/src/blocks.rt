@@ -4,16 +4,16 @@
 //! release and a make.
 
 use crate::draw::{SEED, next, pick};
-use block_memory::{BlockId, RegionMemory};
+use block_memory::{BlockId, RegionMemory, VectorMemory};
 use refcounts::SharedMemory;
-use std::alloc::Allocator;
+use std::alloc::Global;
 use std::io;
-use std::rt::Runtime;
 use std::time::Instant;
+use string_builder::StringBuilder;
 use vcode_base::limits::MOST_WORDS;
 
 /// How large the load is.
-#[derive(Clone, Copy, Debug)]
+#[derive(Clone, Copy)]
 struct Load {
     region: usize,
     blocks: usize,
@@ -35,10 +35,12 @@ const LONG: Load = Load {
     operations: 200_000,
 };
 
-type Memory<A> = SharedMemory<RegionMemory<A>, A>;
-
 /// Makes a block of a length that the seed gives. None if its words don't fit, and then no block is made.
-fn make<A: Allocator + Clone>(memory: &mut Memory<A>, words: &[i64], seed: u64) -> Option<BlockId> {
+fn make<M: VectorMemory>(
+    memory: &mut SharedMemory<M, Global>,
+    words: &[i64],
+    seed: u64,
+) -> Option<BlockId> {
     if memory.blocks() >= memory.ids() {
         return None;
     }
@@ -47,8 +49,8 @@ fn make<A: Allocator + Clone>(memory: &mut Memory<A>, words: &[i64], seed: u64) 
 }
 
 /// Releases one block after another and makes another in its place.
-fn churn<A: Allocator + Clone>(
-    memory: &mut Memory<A>,
+fn churn<M: VectorMemory>(
+    memory: &mut SharedMemory<M, Global>,
     blocks: &mut [Option<BlockId>],
     words: &[i64],
     operations: usize,
@@ -70,28 +72,28 @@ fn churn<A: Allocator + Clone>(
     }
 }
 
-/// Prints the state after the load, and the time that an operation took.
-fn show<A: Allocator + Clone>(
-    rt: &impl Runtime,
-    load: Load,
-    memory: &Memory<A>,
-    time: Option<u128>,
-) -> io::Result<()> {
-    println!(rt; "{} blocks of {} words", memory.blocks(), memory.used())?;
-    match time {
-        Some(nanoseconds) => {
-            let each = nanoseconds / (load.operations.max(1) as u128);
-            println!(rt; "{each} nanoseconds an operation")
-        }
-        None => Ok(()),
-    }
+/// Prints the state after the load.
+fn show<M: VectorMemory>(rt: &HostRuntime, memory: &SharedMemory<M, Global>) -> io::Result<()> {
+    let mut text = StringBuilder::new(rt.alloc());
+    text.push_number(memory.blocks() as u64);
+    text.push_str(" blocks of ");
+    text.push_number(memory.used() as u64);
+    text.push_str(" words");
+    let text = text.finish()?;
+    println!(rt; "{text}")
+}
+
+/// Prints the time that an operation of a load took.
+fn show_time(rt: &HostRuntime, load: Load, nanoseconds: u128) -> io::Result<()> {
+    let each = nanoseconds / (load.operations.max(1) as u128);
+    println!(rt; "{each} nanoseconds an operation")
 }
 
 /// Runs a quarter of a load, and then the load itself, which is timed.
-fn run_twice<A: Allocator + Clone>(
-    rt: &impl Runtime,
+fn run_twice<M: VectorMemory>(
+    rt: &HostRuntime,
     load: Load,
-    memory: &mut Memory<A>,
+    memory: &mut SharedMemory<M, Global>,
     blocks: &mut [Option<BlockId>],
     words: &[i64],
 ) -> io::Result<u128> {
@@ -102,31 +104,37 @@ fn run_twice<A: Allocator + Clone>(
 }
 
 /// Runs a load over a memory of no blocks, and answers how long it took.
-fn run_new<A: Allocator + Clone>(
-    rt: &impl Runtime,
+fn run_new<M: VectorMemory>(
+    rt: &HostRuntime,
     load: Load,
-    memory: &mut Memory<A>,
+    memory: &mut SharedMemory<M, Global>,
 ) -> io::Result<u128> {
     let mut blocks = vec![in rt.alloc(); None; load.blocks]?;
     let words = vec![in rt.alloc(); 7; load.longest]?;
     run_twice(rt, load, memory, &mut blocks, &words)
 }
 
-/// Runs a load over a memory of no blocks, and prints what came of it.
-fn run_load<A: Allocator + Clone>(
-    rt: &impl Runtime,
+/// Runs a load over a memory of no blocks, and prints what came of it, and the time if it is timed.
+fn run_load<M: VectorMemory>(
+    rt: &HostRuntime,
     load: Load,
-    memory: &mut Memory<A>,
+    memory: &mut SharedMemory<M, Global>,
     is_timed: bool,
 ) -> io::Result<()> {
     let took = run_new(rt, load, memory)?;
-    show(rt, load, memory, is_timed.then_some(took))
+    show(rt, memory)?;
+    if is_timed {
+        return show_time(rt, load, took);
+    }
+    Ok(())
 }
 
 /// Runs the short load, or the long one and times it.
-pub fn run(rt: &impl Runtime, is_timed: bool) -> io::Result<()> {
+pub fn run(rt: &HostRuntime, is_timed: bool) -> io::Result<()> {
     let load = if is_timed { LONG } else { SHORT };
     let region = RegionMemory::new(rt.alloc(), load.region, load.blocks)?;
     let mut memory = SharedMemory::new(rt.alloc(), region)?;
-    run_load(rt, load, &mut memory, is_timed)
+    let ran = run_load(rt, load, &mut memory, is_timed);
+    drop(memory);
+    ran
 }

@@ -16,53 +16,89 @@ mod bench;
 mod blocks;
 mod draw;
 mod loads;
+mod rows;
 mod spans;
 mod takes;
 
-use bench::{Load, Shown, elementwise_rows, segment_rows};
-use loads::{Random, Segments};
-use std::rt::Runtime;
+use bench::show_rows;
+use loads::{Load, Random, Segments, Shown, Vectors};
+use rows::{ELEMENTWISE, SEGMENTED};
 use std::{env, io};
 
 /// How often each instruction is timed.
 const ROUNDS: u64 = 41;
 
-/// The lines of all instructions over vectors of `words` words.
-fn print_rows<R: Runtime>(rt: &R, shown: Shown, words: u32, random: &mut Random) -> io::Result<()> {
-    println!(rt; "of {words}")?;
-    let load = Load {
-        shown,
-        words: words as usize,
-    };
-    elementwise_rows(rt, load, random)?;
-    println!(rt; "of {words}, in segments of ten")?;
-    segment_rows(rt, shown, words, Segments::AboutTen, random)?;
-    println!(rt; "of {words}, in one segment")?;
-    segment_rows(rt, shown, words, Segments::One, random)
+/// The lines of the elementwise instructions.
+fn show_elementwise(
+    rt: &HostRuntime,
+    load: Load,
+    vectors: &mut Vectors,
+    random: &mut Random,
+) -> io::Result<()> {
+    println!(rt; "of {}", load.words)?;
+    vectors.fill(rt.alloc(), random, load.words)?;
+    show_rows(rt, load, vectors, &ELEMENTWISE)
+}
+
+/// The lines of the segment instructions.
+fn show_segmented(
+    rt: &HostRuntime,
+    load: Load,
+    segments: Segments,
+    vectors: &mut Vectors,
+    random: &mut Random,
+) -> io::Result<()> {
+    println!(rt; "of {}, {}", load.words, segments.name())?;
+    vectors.fill_segments(rt.alloc(), random, segments, load.words)?;
+    show_rows(rt, load, vectors, &SEGMENTED)
+}
+
+/// The lines of all instructions.
+fn show_instructions(
+    rt: &HostRuntime,
+    load: Load,
+    vectors: &mut Vectors,
+    random: &mut Random,
+) -> io::Result<()> {
+    show_elementwise(rt, load, vectors, random)?;
+    show_segmented(rt, load, Segments::AboutTen, vectors, random)?;
+    show_segmented(rt, load, Segments::One, vectors, random)
 }
 
 /// The lines of a round.
-fn print_round<R: Runtime>(rt: &R, random: &mut Random) -> io::Result<()> {
-    print_rows(rt, Shown::Time, 1, random)?;
-    print_rows(rt, Shown::Time, 100, random)?;
-    print_rows(rt, Shown::Time, 1_000, random)?;
-    print_rows(rt, Shown::Time, 30_000, random)
+fn show_round(rt: &HostRuntime, vectors: &mut Vectors, random: &mut Random) -> io::Result<()> {
+    for words in [1, 100, 1_000, 30_000] {
+        let load = Load {
+            shown: Shown::Time,
+            words,
+        };
+        show_instructions(rt, load, vectors, random)?;
+    }
+    Ok(())
 }
 
-/// The lines of the instructions.
-fn print_instructions<R: Runtime>(rt: &R, is_timed: bool) -> io::Result<()> {
-    let mut random = Random::new(1);
+/// The lines of the instructions: of all rounds, or their ends.
+fn show_all(
+    rt: &HostRuntime,
+    is_timed: bool,
+    vectors: &mut Vectors,
+    random: &mut Random,
+) -> io::Result<()> {
     if !is_timed {
-        return print_rows(rt, Shown::Ends, 100, &mut random);
+        let load = Load {
+            shown: Shown::Ends,
+            words: 100,
+        };
+        return show_instructions(rt, load, vectors, random);
     }
     for _ in 0..ROUNDS {
-        print_round(rt, &mut random)?;
+        show_round(rt, vectors, random)?;
     }
     Ok(())
 }
 
 /// Whether the program has this argument.
-fn has_argument(rt: &impl Runtime, argument: &str) -> io::Result<bool> {
+fn has_argument(rt: &HostRuntime, argument: &str) -> io::Result<bool> {
     Ok(env::args(rt)?.any(|word| word.as_str() == argument))
 }
 
@@ -70,7 +106,12 @@ fn main(rt: HostRuntime) -> io::Result<()> {
     let is_timed = has_argument(&rt, "time")?;
     let is_memory = has_argument(&rt, "memory")?;
     if !is_memory {
-        print_instructions(&rt, is_timed)?;
+        show_all(
+            &rt,
+            is_timed,
+            &mut Vectors::new(rt.alloc()),
+            &mut Random::new(1),
+        )?;
     }
     if is_timed && !is_memory {
         return Ok(());

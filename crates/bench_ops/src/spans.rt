@@ -5,10 +5,10 @@ ghost use Rattle.bench_ops.specs.Spans.{AreApart};
 
 use holes::laws::no_more_holes_than_words;
 use holes::{Holes, LONGEST_REGION};
-use std::alloc::{AllocError, Allocator};
+use std::alloc::{AllocError, Global};
 
 /// The words `place..place + len`.
-#[derive(Clone, Copy, Debug)]
+#[derive(Clone, Copy)]
 struct Span {
     place: usize,
     len: usize,
@@ -20,20 +20,20 @@ impl Span {
 }
 
 /// The holes of a region, and for each number the words that were taken for it.
-#[derive(Debug, Drop)]
-pub struct Spans<A: Allocator> {
-    holes: Holes<A>,
-    spans: Vec<Span, A>,
+#[derive(Drop)]
+pub struct Spans {
+    holes: Holes<Global>,
+    spans: Vec<Span>,
     ghost within: { All (λ span. span.place + span.len ≤ length holes.free) spans.items },
     ghost apart: { AreApart holes.free spans.items },
 }
 
-impl<A: Allocator + Clone> Spans<A> {
+impl Spans {
     /// A region of `size` words, of which no number has any.
-    pub fn new(alloc: A, size: usize, numbers: usize) -> Result<Self, AllocError>
+    pub fn new(alloc: Global, size: usize, numbers: usize) -> Result<Self, AllocError>
         requires { size ≤ LONGEST_REGION }
     {
-        let spans = vec![in alloc.clone()?; Span::NONE; numbers]?;
+        let spans = vec![in alloc; Span::NONE; numbers]?;
         let most = size.saturating_add(1);
         let holes = Holes::new(alloc, size, most)?;
         Ok(Self { holes, spans })
@@ -67,7 +67,7 @@ impl<A: Allocator + Clone> Spans<A> {
     }
 
     /// The holes that are left.
-    pub fn holes(&self) -> &Holes<A>
+    pub fn holes(&self) -> &Holes<Global>
         ensures { result.now ≡ self.now.holes }
     {
         &self.holes

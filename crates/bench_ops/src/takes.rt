@@ -5,10 +5,10 @@ ghost use Rattle.std.specs.Prelude.{◌≤◌, ◌<◌};
 use crate::draw::{SEED, next, pick};
 use crate::spans::Spans;
 use holes::Holes;
-use std::alloc::Allocator;
+use std::alloc::{AllocError, Global};
 use std::io;
-use std::rt::Runtime;
 use std::time::Instant;
+use string_builder::StringBuilder;
 use vcode_base::limits::MOST_WORDS;
 
 /// The turns of a load that isn't timed.
@@ -21,7 +21,7 @@ const TIMED_TURNS: usize = 400_000;
 const RESETS: usize = 1_000;
 
 /// In which order numbers have their turns.
-#[derive(Clone, Copy, Debug)]
+#[derive(Clone, Copy)]
 enum Order {
     /// From the first to the last, again and again.
     Turns,
@@ -42,7 +42,7 @@ impl Order {
 }
 
 /// How many numbers there are, the least and the greatest length of a range, and the order of turns.
-#[derive(Clone, Copy, Debug)]
+#[derive(Clone, Copy)]
 struct Load {
     numbers: usize,
     least: usize,
@@ -78,7 +78,7 @@ fn loads() -> [Load; 11] {
 }
 
 /// A number, and how many words it takes after it gave those that it had.
-#[derive(Clone, Copy, Debug)]
+#[derive(Clone, Copy)]
 struct Turn {
     number: usize,
     len: usize,
@@ -110,7 +110,7 @@ fn turn_at(load: Load, index: usize, seed: u64) -> Turn {
 }
 
 /// Runs `turns` turns of a load.
-fn churn<A: Allocator + Clone>(load: Load, spans: &mut Spans<A>, turns: usize) {
+fn churn(load: Load, spans: &mut Spans, turns: usize) {
     let mut seed = SEED;
     for index in 0..turns {
         seed = next(next(seed));
@@ -120,46 +120,61 @@ fn churn<A: Allocator + Clone>(load: Load, spans: &mut Spans<A>, turns: usize) {
     }
 }
 
-/// Prints a load and the state after it.
-fn show<A: Allocator + Clone>(rt: &impl Runtime, load: Load, spans: &Spans<A>) -> io::Result<()> {
-    let holes = spans.holes();
-    let (free, count, widest) = (holes.free(), holes.count(), holes.widest());
-    let Load {
-        numbers,
-        least,
-        greatest,
-        order,
-    } = load;
-    println!(rt;
-        "{numbers} {least} {greatest} {}: {free} words free in {count} holes, {widest} in the widest",
-        order.name()
-    )
+/// A load and the state after it, as a line shows them.
+fn text_of(rt: &HostRuntime, load: Load, holes: &Holes<Global>) -> Result<String, AllocError> {
+    let mut text = StringBuilder::new(rt.alloc());
+    for number in [load.numbers, load.least, load.greatest] {
+        text.push_number(number as u64);
+        text.push(' ');
+    }
+    text.push_str(load.order.name());
+    text.push_str(": ");
+    text.push_number(holes.free() as u64);
+    text.push_str(" words free in ");
+    text.push_number(holes.count() as u64);
+    text.push_str(" holes, ");
+    text.push_number(holes.widest() as u64);
+    text.push_str(" in the widest");
+    text.finish()
 }
 
-/// Runs some turns first and then those that are timed.
-fn run_turns<A: Allocator + Clone>(
-    rt: &impl Runtime,
+/// Prints a load and the state after it.
+fn show(rt: &HostRuntime, load: Load, holes: &Holes<Global>) -> io::Result<()> {
+    let text = text_of(rt, load, holes)?;
+    println!(rt; "{text}")
+}
+
+/// Runs turns of a load, and answers how many nanoseconds they took.
+fn time_turns(rt: &HostRuntime, load: Load, spans: &mut Spans, turns: usize) -> io::Result<u128> {
+    let start = Instant::now(rt)?;
+    churn(load, spans, turns);
+    Ok(start.elapsed(rt)?.as_nanos())
+}
+
+/// Runs some turns first and then those that are timed, and prints the state after them.
+fn run_turns(
+    rt: &HostRuntime,
     load: Load,
-    spans: &mut Spans<A>,
+    spans: &mut Spans,
     first: usize,
     turns: usize,
 ) -> io::Result<u128> {
     churn(load, spans, first);
-    let start = Instant::now(rt)?;
-    churn(load, spans, turns);
-    let took = start.elapsed(rt)?.as_nanos();
-    show(rt, load, spans)?;
+    let took = time_turns(rt, load, spans, turns)?;
+    show(rt, load, spans.holes())?;
     Ok(took)
 }
 
 /// Runs a load in a region of which no number has words yet.
-fn run_load(rt: &impl Runtime, load: Load, first: usize, turns: usize) -> io::Result<u128> {
+fn run_load(rt: &HostRuntime, load: Load, first: usize, turns: usize) -> io::Result<u128> {
     let mut spans = Spans::new(rt.alloc(), MOST_WORDS, load.numbers)?;
-    run_turns(rt, load, &mut spans, first, turns)
+    let took = run_turns(rt, load, &mut spans, first, turns);
+    drop(spans);
+    took
 }
 
 /// Makes all words of the region free, again and again, and answers how long that took.
-fn time_resets<A: Allocator + Clone>(rt: &impl Runtime, holes: &mut Holes<A>) -> io::Result<u128> {
+fn time_resets(rt: &HostRuntime, holes: &mut Holes<Global>) -> io::Result<u128> {
     let start = Instant::now(rt)?;
     for _ in 0..RESETS {
         holes.reset(0);
@@ -168,24 +183,33 @@ fn time_resets<A: Allocator + Clone>(rt: &impl Runtime, holes: &mut Holes<A>) ->
 }
 
 /// Prints how long resets take.
-fn show_resets(rt: &impl Runtime) -> io::Result<()> {
+fn show_resets(rt: &HostRuntime) -> io::Result<()> {
     let mut holes = Holes::new(rt.alloc(), MOST_WORDS, 1)?;
     let took = time_resets(rt, &mut holes)?;
     println!(rt; "{took} nanoseconds for {RESETS} resets")
 }
 
-/// Runs short loads; or long ones, after each number had about ten turns, and times them and resets.
-pub fn run(rt: &impl Runtime, is_timed: bool) -> io::Result<()> {
+/// Runs a long load, after each number had about ten turns, and prints how long it took.
+fn show_timed(rt: &HostRuntime, load: Load) -> io::Result<()> {
+    let took = run_load(rt, load, load.numbers.saturating_mul(10), TIMED_TURNS)?;
+    println!(rt; "{took} nanoseconds for {TIMED_TURNS} turns")
+}
+
+/// Runs the long loads, and times them and resets.
+fn run_timed(rt: &HostRuntime) -> io::Result<()> {
     for load in loads() {
-        if is_timed {
-            let took = run_load(rt, load, load.numbers.saturating_mul(10), TIMED_TURNS)?;
-            println!(rt; "{took} nanoseconds for {TIMED_TURNS} turns")?;
-        } else {
-            run_load(rt, load, 0, SHORT_TURNS)?;
-        }
+        show_timed(rt, load)?;
     }
+    show_resets(rt)
+}
+
+/// Runs short loads; or long ones, and times them and resets.
+pub fn run(rt: &HostRuntime, is_timed: bool) -> io::Result<()> {
     if is_timed {
-        show_resets(rt)?;
+        return run_timed(rt);
+    }
+    for load in loads() {
+        let _took = run_load(rt, load, 0, SHORT_TURNS)?;
     }
     Ok(())
 }

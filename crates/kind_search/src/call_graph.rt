@@ -115,17 +115,13 @@ fn callees_first<A: Allocator + Copy>(
     program: &Program<A>,
 ) -> Result<Vec<usize, A>, AllocError> {
     let mut search = Search::new(alloc, program)?;
-    let count = program.functions().len();
-    for function in 0..count {
-        search.enter(function)?;
-        // Each step enters a function or leaves one.
-        for _ in 0..count.saturating_mul(2) {
-            if !search.step()? {
-                break;
-            }
+    match search.enter_all(program.functions().len()) {
+        Ok(()) => Ok(search.into_order()),
+        Err(AllocError) => {
+            drop(search);
+            Err(AllocError)
         }
     }
-    Ok(search.into_order())
 }
 
 impl<'a, A: Allocator + Copy> Search<'a, A> {
@@ -145,6 +141,20 @@ impl<'a, A: Allocator + Copy> Search<'a, A> {
 }
 
 impl<'a, A: Allocator> Search<'a, A> {
+    /// Enters each of `count` functions and those that it calls, and leaves them.
+    fn enter_all(&mut self, count: usize) -> Result<(), AllocError> {
+        for function in 0..count {
+            self.enter(function)?;
+            // Each step enters a function or leaves one.
+            for _ in 0..count.saturating_mul(2) {
+                if !self.step()? {
+                    break;
+                }
+            }
+        }
+        Ok(())
+    }
+
     /// Enters a function, unless it was entered before.
     fn enter(&mut self, function: usize) -> Result<(), AllocError> {
         if let Some(seen) = self.seen.get_mut(function) {

@@ -28,15 +28,39 @@ impl<'a, A: Allocator + Copy> Finder<'a, A> {
         most_entries: usize,
     ) -> Result<Finder<'a, A>, PlacedFault> {
         let graph = CallGraph::new(alloc, program)?;
-        let mut heights = Heights::of_known(alloc, program, &graph)?;
+        let found = Finder::find_in(alloc, program, &graph, most_entries);
+        drop(graph);
+        found
+    }
+
+    /// The same, by the calls of the program.
+    fn find_in(
+        alloc: A,
+        program: &'a Program<A>,
+        graph: &CallGraph<A>,
+        most_entries: usize,
+    ) -> Result<Finder<'a, A>, PlacedFault> {
+        let mut heights = Heights::of_known(alloc, program, graph)?;
+        let found = Finder::find_by(alloc, program, graph, &mut heights, most_entries);
+        drop(heights);
+        found
+    }
+
+    /// The same, by the heights that are known without an assumption.
+    fn find_by(
+        alloc: A,
+        program: &'a Program<A>,
+        graph: &CallGraph<A>,
+        heights: &mut Heights<'_, A>,
+        most_entries: usize,
+    ) -> Result<Finder<'a, A>, PlacedFault> {
         if heights.waiting().is_some() {
             // What the others take and give has to be right without an assumption, and so has what MAIN takes.
-            let known = kinds_by(alloc, program, &graph, &heights, most_entries)?;
-            check_main(program, &known)?;
+            check_known(alloc, program, graph, heights, most_entries)?;
             heights.assume_all()?;
         }
         let assumed = heights.first_assumed();
-        match kinds_by(alloc, program, &graph, &heights, most_entries) {
+        match kinds_by(alloc, program, graph, heights, most_entries) {
             Ok(kinds) => Ok(Finder {
                 program,
                 kinds,
@@ -69,6 +93,20 @@ fn kinds_by<'a, A: Allocator + Copy>(
 ) -> Result<Kinds<'a, A>, PlacedFault> {
     let shapes = shapes_of(alloc, program, graph, heights)?;
     Kinds::find(alloc, program, graph, shapes.as_slice(), most_entries)
+}
+
+/// Refuses functions that have no kinds by these heights, and a MAIN that takes operands.
+fn check_known<A: Allocator + Copy>(
+    alloc: A,
+    program: &Program<A>,
+    graph: &CallGraph<A>,
+    heights: &Heights<'_, A>,
+    most_entries: usize,
+) -> Result<(), PlacedFault> {
+    let known = kinds_by(alloc, program, graph, heights, most_entries)?;
+    let checked = check_main(program, &known);
+    drop(known);
+    checked
 }
 
 /// Refuses a MAIN that takes operands.

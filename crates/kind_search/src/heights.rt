@@ -43,8 +43,13 @@ impl<'a, A: Allocator + Copy> Heights<'a, A> {
         graph: &'a CallGraph<A>,
     ) -> Result<Heights<'a, A>, PlacedFault> {
         let mut heights = Heights::new(alloc, program, graph)?;
-        heights.settle()?;
-        Ok(heights)
+        match heights.settle() {
+            Ok(()) => Ok(heights),
+            Err(fault) => {
+                drop(heights);
+                Err(fault)
+            }
+        }
     }
 
     /// Nothing is known, and all functions are to be walked through.
@@ -54,23 +59,15 @@ impl<'a, A: Allocator + Copy> Heights<'a, A> {
         graph: &'a CallGraph<A>,
     ) -> Result<Heights<'a, A>, AllocError> {
         let count = program.functions().len();
-        let mut ends = Vec::with_capacity(alloc, count)?;
-        let mut reaches = Vec::with_capacity(alloc, count)?;
-        let mut assumed = Vec::with_capacity(alloc, count)?;
-        for _ in 0..count {
-            ends.push(None)?;
-            reaches.push(Reach::new(alloc))?;
-            assumed.push(false)?;
-        }
         Ok(Heights {
             alloc,
             program,
             graph,
-            ends,
-            reaches,
+            ends: vec![in alloc; None; count]?,
+            reaches: no_reaches(alloc, count)?,
             agenda: Agenda::all(alloc, graph)?,
             calls: CallList::new(alloc, count)?,
-            assumed,
+            assumed: vec![in alloc; false; count]?,
             first_assumed: None,
             first_waiting: 0,
         })
@@ -144,6 +141,22 @@ impl<'a, A: Allocator + Copy> Heights<'a, A> {
     /// Walks through the body of the function at this place.
     fn walk(&mut self, place: usize, function: &Function<A>) -> Result<Reach<A>, PlacedFault> {
         let mut walk = HeightWalk::new(self.alloc);
+        match self.walk_on(&mut walk, place, function) {
+            Ok(()) => Ok(walk.finish(self.alloc, &self.calls)?),
+            Err(fault) => {
+                drop(walk);
+                Err(fault)
+            }
+        }
+    }
+
+    /// Goes by this walk, which has begun, through the body of the function at this place.
+    fn walk_on(
+        &mut self,
+        walk: &mut HeightWalk<A>,
+        place: usize,
+        function: &Function<A>,
+    ) -> Result<(), PlacedFault> {
         self.calls.clear();
         for at in 0..function.line_count() {
             let Some(line) = function.item(at) else {
@@ -154,7 +167,7 @@ impl<'a, A: Allocator + Copy> Heights<'a, A> {
                 return Err(height_fault(fault, place, line.number));
             }
         }
-        Ok(walk.finish(self.alloc, &self.calls)?)
+        Ok(())
     }
 
     /// A function is known to return at this height, so its callers at whose CALLs a path ended are to be walked
@@ -235,6 +248,15 @@ impl<'a, A: Allocator> Heights<'a, A> {
         }
         last
     }
+}
+
+/// What is found by no walk, for this number of functions.
+fn no_reaches<A: Allocator + Copy>(alloc: A, count: usize) -> Result<Vec<Reach<A>, A>, AllocError> {
+    let mut reaches = Vec::with_capacity(alloc, count)?;
+    for _ in 0..count {
+        reaches.push(Reach::new(alloc))?;
+    }
+    Ok(reaches)
 }
 
 /// The fault that ends a walk through a function at a line.

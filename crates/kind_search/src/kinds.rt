@@ -107,31 +107,54 @@ impl<'a, A: Allocator + Copy> Kinds<'a, A> {
             classes: Classes::new(alloc, count)?,
             stacks: Stacks::new(alloc, count, most_entries)?,
         };
+        match kinds.walk_all(graph) {
+            Ok(()) => Ok(kinds),
+            Err(fault) => {
+                drop(kinds);
+                Err(fault)
+            }
+        }
+    }
+
+    /// Walks through all bodies, in the order of the graph.
+    fn walk_all(&mut self, graph: &CallGraph<A>) -> Result<(), PlacedFault> {
         for rank in 0..graph.len() {
             if let Some(place) = graph.at(rank) {
-                if let Some(function) = program.functions().get(place) {
-                    kinds.walk(place, function)?;
+                if let Some(function) = self.program.functions().get(place) {
+                    self.walk(place, function)?;
                 }
             }
         }
-        kinds.decide_assumed();
-        Ok(kinds)
+        self.decide_assumed();
+        Ok(())
     }
 
     /// Walks through the body of the function at this place.
     fn walk(&mut self, place: usize, function: &Function<A>) -> Result<(), PlacedFault> {
-        let mut last = function.line();
         let mut walk = match self.begin(place) {
             Ok(walk) => walk,
-            Err(fault) => return Err(self.fault_at(fault, place, None, last)),
+            Err(fault) => return Err(self.fault_at(fault, place, None, function.line())),
         };
+        let walked = self.walk_on(&mut walk, place, function);
+        drop(walk);
+        walked
+    }
+
+    /// Goes by this walk, which has begun, through the body of the function at this place.
+    fn walk_on(
+        &mut self,
+        walk: &mut KindWalk<A>,
+        place: usize,
+        function: &Function<A>,
+    ) -> Result<(), PlacedFault> {
+        let mut last = function.line();
         for at in 0..function.line_count() {
             let Some(line) = function.item(at) else {
                 break;
             };
             let callee = self.program.callee(place, at);
             last = line.number;
-            if let Err(fault) = self.step(&mut walk, callee, &line) {
+            if let Err(fault) = self.step(walk, callee, &line) {
                 return Err(self.fault_at(fault, place, callee, last));
             }
         }
@@ -300,7 +323,7 @@ impl<'a, A: Allocator> Kinds<'a, A> {
     }
 
     /// The walk through the body of the function at this place has come to its end: the entries at RET are its results.
-    fn finish(&mut self, place: usize, walk: KindWalk<A>) -> Result<(), PathFault> {
+    fn finish(&mut self, place: usize, walk: &KindWalk<A>) -> Result<(), PathFault> {
         let Some(stack) = walk.paths.path() else {
             return Ok(());
         };

@@ -26,11 +26,34 @@ pub fn make_guess<A: Allocator + Copy>(
     most_entries: usize,
 ) -> Result<Guess<A>, PlacedFault> {
     let mut finder = Finder::find(alloc, program, most_entries)?;
+    let guess = guess_of(alloc, program, &mut finder);
+    drop(finder);
+    guess
+}
+
+/// The text of what a finder has found, and what is wrong if it doesn't fit.
+fn guess_of<A: Allocator + Copy>(
+    alloc: A,
+    program: &Program<A>,
+    finder: &mut Finder<'_, A>,
+) -> Result<Guess<A>, PlacedFault> {
     let mut text = Vec::new(alloc);
     for (place, function) in program.functions().iter().enumerate() {
-        let kinds = finder.function_type(place)?;
-        put_signature(&mut text, function.name(), &kinds)?;
+        put_line(&mut text, finder, place, function.name())?;
     }
-    let blame = finder.blame();
-    Ok(Guess { text, blame })
+    Ok(Guess {
+        text,
+        blame: finder.blame(),
+    })
+}
+
+/// Appends the line of the function at this place, which has this name.
+fn put_line<A: Allocator + Copy>(
+    text: &mut Vec<u8, A>,
+    finder: &mut Finder<'_, A>,
+    place: usize,
+    name: &[u8],
+) -> Result<(), PlacedFault> {
+    let kinds = finder.function_type(place)?;
+    Ok(put_signature(text, name, &kinds)?)
 }

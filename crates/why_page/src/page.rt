@@ -1,12 +1,12 @@
 //! A page for a browser that shows jobs, with no other file.
 
-use crate::page_script::SCRIPT;
+use crate::page_script::script;
 use crate::page_style::STYLE;
 use std::alloc::{AllocError, Global};
 use string_builder::StringBuilder;
 
 /// The page up to its style. It may fetch nothing and send nothing, and run no script but its own: the hash is the
-/// SHA-256 of what is between the tags of the script, an LF and the parts of [`SCRIPT`].
+/// SHA-256 of what is between the tags of the script, an LF and the parts of [`script`].
 const HEAD: &str = r#"<!DOCTYPE html>
 <html lang="en">
 <head>
@@ -34,6 +34,18 @@ const BEFORE_SCRIPT: &str = "\n]</script>\n<script>\n";
 /// The end of the page.
 const END: &str = "</script>\n</body>\n</html>\n";
 
+/// The page up to the objects of its jobs, in parts that follow one another.
+fn front() -> &'static [&'static str] {
+    &[HEAD, STYLE, BODY]
+}
+
+/// Adds the parts of a text, one after another.
+fn push_parts(page: &mut StringBuilder<Global>, parts: &[&str]) {
+    for part in parts {
+        page.push_str(part);
+    }
+}
+
 /// Adds the objects of the jobs, one on each line.
 fn push_objects(page: &mut StringBuilder<Global>, objects: &[String]) {
     for (place, object) in objects.iter().enumerate() {
@@ -44,13 +56,6 @@ fn push_objects(page: &mut StringBuilder<Global>, objects: &[String]) {
     }
 }
 
-/// Adds the parts of the script.
-fn push_script(page: &mut StringBuilder<Global>) {
-    for part in SCRIPT {
-        page.push_str(part);
-    }
-}
-
 /// The page that shows the jobs of these objects, each of which is JSON text without `<`.
 ///
 /// # Errors
@@ -58,12 +63,10 @@ fn push_script(page: &mut StringBuilder<Global>) {
 /// [`AllocError`] if memory was refused.
 pub fn page_of(alloc: Global, objects: &[String]) -> Result<String, AllocError> {
     let mut page = StringBuilder::new(alloc);
-    for part in [HEAD, STYLE, BODY] {
-        page.push_str(part);
-    }
+    push_parts(&mut page, front());
     push_objects(&mut page, objects);
     page.push_str(BEFORE_SCRIPT);
-    push_script(&mut page);
+    push_parts(&mut page, script());
     page.push_str(END);
     page.finish()
 }

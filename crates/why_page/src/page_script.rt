@@ -8,4 +8,6 @@ use crate::script_jobs::JOBS;
 use crate::script_over_time::OVER_TIME;
 
 /// The script of the page, in parts that follow one another.
-pub(crate) const SCRIPT: &[&str] = &[BASE, ENDING, OVER_TIME, CALLS, CODE, JOBS];
+pub(crate) fn script() -> &'static [&'static str] {
+    &[BASE, ENDING, OVER_TIME, CALLS, CODE, JOBS]
+}

@@ -1,4 +1,5 @@
 //! Blocks that live while references name them.
+use crate::compare::same;
 use block_memory::{BlockId, PlainMemory, RegionMemory, SlidingMemory, VectorMemory};
 use refcounts::SharedMemory;
 use std::alloc::Global;
@@ -16,9 +17,10 @@ fn shares<M: VectorMemory>(
     id: BlockId,
     count: u64,
 ) {
-    assert!(rt; 0 < shared.count(id) && shared.count(id) < u64::MAX);
+    assert!(rt; 0 < shared.count(id));
+    assert!(rt; shared.count(id) < u64::MAX);
     shared.share(id);
-    assert_eq!(rt; shared.count(id), count);
+    same(rt, &shared.count(id), &count);
 }
 
 /// One reference less to a block, and how many it then has; whether that was the last one.
@@ -27,11 +29,10 @@ fn releases<M: VectorMemory>(
     shared: &mut SharedMemory<M, Global>,
     id: BlockId,
     count: u64,
-) -> bool {
+) {
     assert!(rt; shared.count(id) > 0);
-    let was_last = shared.release(id);
-    assert_eq!(rt; shared.count(id), count);
-    was_last
+    same(rt, &shared.release(id), &(count == 0));
+    same(rt, &shared.count(id), &count);
 }
 
 /// One reference less to a block, in a list, and how many words are freed by it.
@@ -43,17 +44,45 @@ fn frees<M: VectorMemory>(
 ) {
     assert!(rt; shared.count(id) > 0);
     let left = shared.used_without(&[id]);
-    assert_eq!(rt; shared.release_all(&[id]), freed);
-    assert_eq!(rt; shared.used(), left);
+    same(rt, &shared.release_all(&[id]), &freed);
+    same(rt, &shared.used(), &left);
 }
 
 /// The block is there, with its owner and its words.
 fn is_there<M: VectorMemory>(rt: &impl Abort, shared: &SharedMemory<M, Global>, id: BlockId) {
     assert!(rt; shared.count(id) > 0);
-    assert_eq!(rt; (shared.owner(id), shared.words(id)), (OWNER, WORDS));
+    same(rt, &shared.owner(id), &OWNER);
+    same(rt, &shared.words(id), &WORDS);
     let len = shared.len(id);
-    assert_eq!(rt; len, 3);
-    assert_eq!(rt; shared.word(id, len - 1), 6);
+    assert!(rt; len == 3);
+    same(rt, &shared.word(id, len - 1), &6);
+}
+
+/// A memory has this many words in use, in this many blocks.
+fn holds<M: VectorMemory>(
+    rt: &impl Abort,
+    shared: &SharedMemory<M, Global>,
+    words: usize,
+    blocks: usize,
+) {
+    same(rt, &shared.used(), &words);
+    same(rt, &shared.blocks(), &blocks);
+}
+
+/// A new block with this number of references.
+fn make<M: VectorMemory>(
+    rt: &impl Abort,
+    shared: &mut SharedMemory<M, Global>,
+    count: u64,
+) -> Result<BlockId, Fail> {
+    assert!(rt; shared.blocks() < shared.ids());
+    let id = shared.make(OWNER, WORDS)?;
+    for references in 2..=count {
+        shares(rt, shared, id, references);
+    }
+    is_there(rt, shared, id);
+    holds(rt, shared, WORDS.len(), 1);
+    Ok(id)
 }
 
 /// A block lives while references name it, and then its words are free.
@@ -61,46 +90,41 @@ fn lives_while_named<M: VectorMemory>(
     rt: &impl Abort,
     shared: &mut SharedMemory<M, Global>,
 ) -> Result<(), Fail> {
-    assert!(rt; shared.blocks() < shared.ids());
-    let id = shared.make(OWNER, WORDS)?;
-    for count in 2..4 {
-        shares(rt, shared, id, count);
+    let id = make(rt, shared, 3)?;
+    for count in [2, 1, 0] {
+        releases(rt, shared, id, count);
     }
-    is_there(rt, shared, id);
-    assert_eq!(rt; (shared.used(), shared.blocks()), (3, 1));
-    for (count, is_last) in [(2, false), (1, false), (0, true)] {
-        assert_eq!(rt; releases(rt, shared, id, count), is_last);
-    }
-    assert_eq!(rt; (shared.used(), shared.blocks()), (0, 0));
+    holds(rt, shared, 0, 0);
+    let id = make(rt, shared, 2)?;
+    frees(rt, shared, id, 0);
+    frees(rt, shared, id, 3);
     Ok(())
 }
 
-#[test]
-fn frees_with_the_last(rt: HostRuntime) -> Result<(), Fail> {
-    let memory = SlidingMemory::new(rt.alloc(), 10, 4)?;
-    let mut shared = SharedMemory::new(rt.alloc(), memory)?;
-    assert!(&rt; shared.blocks() < shared.ids());
-    let id = shared.make(OWNER, WORDS)?;
-    shares(&rt, &mut shared, id, 2);
-    frees(&rt, &mut shared, id, 0);
-    frees(&rt, &mut shared, id, 3);
-    Ok(())
+/// Over this memory, which has no blocks, a block lives while references name it.
+fn blocks_live_while_named<M: VectorMemory + Drop>(
+    rt: &impl Abort,
+    alloc: Global,
+    memory: M,
+) -> Result<(), Fail> {
+    assert!(rt; memory.blocks() == 0);
+    let mut shared = SharedMemory::new(alloc, memory)?;
+    let tried = lives_while_named(rt, &mut shared);
+    drop(shared);
+    tried
 }
 
 #[test]
 fn plain_blocks_live_while_named(rt: HostRuntime) -> Result<(), Fail> {
-    let memory = PlainMemory::new(rt.alloc(), 10, 4)?;
-    lives_while_named(&rt, &mut SharedMemory::new(rt.alloc(), memory)?)
+    blocks_live_while_named(&rt, rt.alloc(), PlainMemory::new(rt.alloc(), 10, 4)?)
 }
 
 #[test]
 fn region_blocks_live_while_named(rt: HostRuntime) -> Result<(), Fail> {
-    let memory = RegionMemory::new(rt.alloc(), 10, 4)?;
-    lives_while_named(&rt, &mut SharedMemory::new(rt.alloc(), memory)?)
+    blocks_live_while_named(&rt, rt.alloc(), RegionMemory::new(rt.alloc(), 10, 4)?)
 }
 
 #[test]
 fn sliding_blocks_live_while_named(rt: HostRuntime) -> Result<(), Fail> {
-    let memory = SlidingMemory::new(rt.alloc(), 10, 4)?;
-    lives_while_named(&rt, &mut SharedMemory::new(rt.alloc(), memory)?)
+    blocks_live_while_named(&rt, rt.alloc(), SlidingMemory::new(rt.alloc(), 10, 4)?)
 }

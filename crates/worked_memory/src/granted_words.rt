@@ -2,6 +2,7 @@
 ghost use Rattle.std.specs.Prelude.{IsSome};
 ghost use Rattle.reservations.specs.BookState.{IsJob, grant_of};
 
+use crate::compare::same;
 use crate::granted_words::Call::{Charge, Close, Exchange, Grant, Has, Refund};
 use reservations::{self, Book, NotNow, Spent};
 use std::alloc::Global;
@@ -50,8 +51,8 @@ fn grants(
 ) {
     is_job(rt, book, job);
     assert!(rt; book.grant_of(job).is_none());
-    assert_eq!(rt; book.fits(words), answer.is_ok(), "{job} and {words}");
-    assert_eq!(rt; book.grant(job, words), answer, "{job} and {words}");
+    same(rt, &book.fits(words), &answer.is_ok());
+    same(rt, &book.grant(job, words), &answer);
 }
 
 fn charges(
@@ -62,7 +63,7 @@ fn charges(
     answer: Result<(), Spent>,
 ) {
     has_grant(rt, book, job);
-    assert_eq!(rt; book.charge(job, words), answer, "{job} and {words}");
+    same(rt, &book.charge(job, words), &answer);
 }
 
 fn refunds(rt: &impl Abort, book: &mut Book<Global>, job: usize, words: usize) {
@@ -81,11 +82,7 @@ fn exchanges(
 ) {
     has_grant(rt, book, job);
     assert!(rt; back <= book.held(job));
-    assert_eq!(rt;
-        book.exchange(job, back, words),
-        answer,
-        "{job} and {words} for {back}"
-    );
+    same(rt, &book.exchange(job, back, words), &answer);
 }
 
 fn closes(rt: &impl Abort, book: &mut Book<Global>, job: usize) {
@@ -103,8 +100,9 @@ fn has(
 ) {
     is_job(rt, book, job);
     let held = expected.map_or(0, |grant| grant.held);
-    assert_eq!(rt; (book.grant_of(job), book.held(job)), (expected, held));
-    assert_eq!(rt; book.granted(), granted);
+    same(rt, &book.grant_of(job), &expected);
+    same(rt, &book.held(job), &held);
+    same(rt, &book.granted(), &granted);
 }
 
 /// Makes the calls, one after another.
@@ -129,8 +127,9 @@ fn grant(words: usize, held: usize) -> Option<reservations::Grant> {
 #[test]
 fn grants_up_to_the_region(rt: HostRuntime) -> Result<(), Fail> {
     let mut book = Book::new(rt.alloc(), 10, 3)?;
-    assert_eq!(rt; (book.jobs(), book.granted()), (3, 0));
+    same(&rt, &book.jobs(), &3);
     let calls = [
+        Has(1, None, 0),
         Grant(1, 11, Err(NotNow)),
         Grant(1, 4, Ok(())),
         Grant(3, 7, Err(NotNow)),
@@ -228,6 +227,7 @@ fn counts_to_the_largest_size(rt: HostRuntime) -> Result<(), Fail> {
 #[test]
 fn serves_no_job(rt: HostRuntime) -> Result<(), Fail> {
     let book = Book::new(rt.alloc(), 0, 0)?;
-    assert_eq!(rt; (book.jobs(), book.granted()), (0, 0));
+    same(&rt, &book.jobs(), &0);
+    same(&rt, &book.granted(), &0);
     Ok(())
 }

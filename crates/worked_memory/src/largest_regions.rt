@@ -1,6 +1,7 @@
 //! The largest region of a run: filled, and filled again at the places of every other block. And the longest holes.
 ghost use Rattle.std.specs.Prelude.{◌≤◌};
 
+use crate::compare::same;
 use block_memory::{BlockId, MOST_BLOCKS, NoRoom, RegionMemory, SlidingMemory, VectorMemory};
 use holes::{Holes, LONGEST_REGION};
 use std::alloc::Global;
@@ -46,10 +47,11 @@ fn reads<M: VectorMemory>(
     words: &mut [i64],
 ) {
     assert!(rt; memory.is_live(id));
-    assert_eq!(rt; (memory.owner(id), memory.words(id)), (owner, expected));
-    assert_eq!(rt; memory.len(id), words.len());
+    assert!(rt; memory.len(id) == words.len());
+    same(rt, &memory.owner(id), &owner);
+    same(rt, &memory.words(id), &expected);
     memory.read_into(id, words);
-    assert_eq!(rt; &*words, expected);
+    same(rt, &&*words, &expected);
 }
 
 /// `blocks` blocks, which are placed in order. The words of each are its number, again and again.
@@ -101,6 +103,20 @@ fn fills_the_holes<M: VectorMemory>(
     Ok(())
 }
 
+/// Frees every other block of a full memory, and fills all their words again with one.
+fn is_filled_again<M: VectorMemory>(
+    rt: &impl Abort,
+    alloc: Global,
+    memory: &mut M,
+    ids: &[BlockId],
+) -> Result<(), Fail> {
+    same(rt, &memory.used(), &memory.size());
+    frees_every_other(rt, memory, ids);
+    fills_the_holes(rt, alloc, memory)?;
+    same(rt, &memory.used(), &memory.size());
+    reads_every_other(rt, memory, ids)
+}
+
 /// Fills a memory with blocks, frees every other one, and fills all their words again with one.
 fn is_filled_twice<M: VectorMemory>(
     rt: &impl Abort,
@@ -108,11 +124,7 @@ fn is_filled_twice<M: VectorMemory>(
     memory: &mut M,
 ) -> Result<(), Fail> {
     let ids = put_all(rt, alloc, memory, most_blocks())?;
-    assert_eq!(rt; memory.used(), memory.size());
-    frees_every_other(rt, memory, &ids);
-    fills_the_holes(rt, alloc, memory)?;
-    assert_eq!(rt; memory.used(), memory.size());
-    reads_every_other(rt, memory, &ids)
+    is_filled_again(rt, alloc, memory, &ids)
 }
 
 #[test]
@@ -131,7 +143,7 @@ fn the_largest_sliding_region_is_filled(rt: HostRuntime) -> Result<(), Fail> {
 fn is_growth_refused(rt: &impl Abort, heap: &RefusingHeap<Global>, growth: u64) -> bool {
     heap.refuse(growth);
     let made = Holes::new(heap, LONGEST_REGION, 4);
-    assert_eq!(rt; made.is_ok(), !heap.has_refused());
+    same(rt, &made.is_ok(), &!heap.has_refused());
     heap.has_refused()
 }
 

@@ -5,6 +5,8 @@
 #![tactic(auto)]
 
 #[cfg(test)]
+mod compare;
+#[cfg(test)]
 mod counted_blocks;
 #[cfg(test)]
 mod granted_words;

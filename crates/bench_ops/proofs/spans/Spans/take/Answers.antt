@@ -8,7 +8,7 @@ use Rattle.bench_ops.proofs.SpanLemmas.{all_within, taken}
 use Rattle.bench_ops.proofs.spans.Spans.take.Goals as goal
 
 pub invariant_of-self : goal.invariant_of-self
-invariant_of-self g c =
+invariant_of-self c =
     let free = c.args.self.now.holes.free in
     let spans = c.args.self.now.spans.items in
     let number = c.args.number in
