@@ -1,5 +1,4 @@
 ghost use Rattle.std.specs.Prelude.{◌≡◌};
-ghost use Rattle.vcode_base.specs.Choices.{or_else};
 ghost use Rattle.vcode_base.specs.Texts.{data_fault_text, memory_fault_text};
 
 use std::alloc::AllocError;
@@ -87,13 +86,4 @@ impl<F> From<AllocError> for TextFault<F> {
     fn from(_: AllocError) -> TextFault<F> {
         TextFault::Memory
     }
-}
-
-/// The line where the innermost thing that is open in a text begins, or none if nothing is open. A comment is inside all
-/// else; `other` is the line of what else is innermost.
-#[inline(always)]
-pub fn innermost_open(comment: Option<u64>, other: Option<u64>) -> Option<u64>
-    ensures { result ≡ or_else comment other }
-{
-    comment.or(other)
 }

@@ -21,7 +21,7 @@ mod shared_words;
 mod value;
 
 pub use bytes::{decimal, is_visible, number_at_front};
-pub use fault::{DataFault, MemoryFault, TextFault, innermost_open};
+pub use fault::{DataFault, MemoryFault, TextFault};
 pub use instr::{FunctionName, Instr, Instruction};
 pub use kind::{Kind, Scalar, have_kinds};
 pub use limits::Limits;

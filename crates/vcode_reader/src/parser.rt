@@ -29,8 +29,9 @@ use crate::word::{count_in, int_of, is_no_name, kind_of, no_value};
 use std::alloc::{AllocError, Allocator};
 use std::marker::Model;
 use std::mem;
+use text_ends::innermost_open;
 use vcode_base::limits::{LONGEST_NAME, MOST_ELEMENTS, MOST_FUNCTIONS, MOST_OPEN_IFS};
-use vcode_base::{FunctionName, Scalar, StackMove, innermost_open};
+use vcode_base::{FunctionName, Scalar, StackMove};
 
 /// The reading of the words so far, and what is open after them.
 #[derive(Drop)]
