@@ -23,7 +23,7 @@ use crate::trail::{Caller, Origin};
 use crate::walk::Walk;
 use crate::window::{Window, fill, kept_at};
 use job_profile::Stop;
-use job_steps::{Frame, Job};
+use job_steps::{Frames, Job};
 use std::alloc::{AllocError, Allocator};
 use std::marker::Model;
 use vcode_base::{Elements, Outcome, Rule, Values};
@@ -386,8 +386,8 @@ impl<A: Allocator> History<A> {
     }
 
     /// The places at which the active calls go on, that of the innermost last.
-    pub fn frames(&self) -> &[Frame]
-        ensures { StandAt self.now.task result.now (state_at self.now) }
+    pub fn frames(&self) -> Frames<'_>
+        ensures { StandAt self.now.task result (state_at self.now) }
     {
         match kept_at(&self.window, self.at, self.walk.at) {
             Some(kept) => kept.frames(),

@@ -9,7 +9,7 @@ use crate::mirror::{Entry, Mirror, copy_of};
 use crate::next::{Next, callee_of};
 use crate::trail::{Caller, Origin};
 use crate::walk::Walk;
-use job_steps::Frame;
+use job_steps::{Frame, Frames};
 use std::alloc::{AllocError, Allocator};
 use std::marker::Model;
 
@@ -70,7 +70,8 @@ impl<A: Allocator + Clone> Kept<A> {
         requires entries { reverse mirror.now.entries.items ≡ lists_in (progress_of walk.now.run) }
         ensures { IfOk result (Shows walk.now.run.task (progress_of walk.now.run)) }
     {
-        let frames = copy_of(alloc, walk.run.frames())?;
+        let stand = walk.run.frames();
+        let frames = stand.copied(alloc.clone()?)?;
         let callers = copy_of(alloc, walk.trail.callers())?;
         let callee = copied(alloc, callee_of(&walk.run))?;
         let entries = mirror.entries()?;
@@ -130,10 +131,10 @@ impl<A: Allocator> Kept<A> {
     }
 
     /// The places at which the active calls go on, that of the innermost last.
-    pub(crate) fn frames(&self) -> &[Frame]
-        ensures { result.now ≡ self.now.frames }
+    pub(crate) fn frames(&self) -> Frames<'_>
+        ensures { result ≡ self.now.frames }
     {
-        &self.frames
+        Frames::of(&self.frames)
     }
 
     /// The next instruction.

@@ -2,7 +2,7 @@
 
 use crate::state::JobState;
 use job_history::{Caller, History, Next, Origin};
-use job_steps::{Frame, Job};
+use job_steps::{Frames, Job};
 use std::alloc::Global;
 use vcode_base::Rule;
 
@@ -43,7 +43,7 @@ impl JobState for History<Global> {
         self.are_copies(depth, other)
     }
 
-    fn frames(&self) -> &[Frame] {
+    fn frames(&self) -> Frames<'_> {
         self.frames()
     }
 

@@ -186,7 +186,7 @@ impl Picture {
         let entries = entries_of(alloc, state, most)?;
         Ok(Picture {
             next: state.next(),
-            place: place_of(state.frames()),
+            place: place_of(&state.frames()),
             depth: state.depth(),
             held: state.held(),
             calls: state.calls(),

@@ -2,7 +2,7 @@
 
 use job_history::{Caller, Next, Origin, Trail};
 use job_profile::Run;
-use job_steps::{Frame, Job};
+use job_steps::{Frames, Job};
 use std::alloc::Global;
 use vcode_base::Rule;
 
@@ -39,7 +39,7 @@ pub trait JobState {
     fn are_copies(&self, depth: usize, other: usize) -> bool;
 
     /// The places at which the active calls go on, that of the innermost last.
-    fn frames(&self) -> &[Frame];
+    fn frames(&self) -> Frames<'_>;
 
     /// The next instruction. `None` if the job doesn't go on.
     fn next(&self) -> Option<Next>;
@@ -98,7 +98,7 @@ impl JobState for Traced<'_> {
         self.run.are_copies(depth, other)
     }
 
-    fn frames(&self) -> &[Frame] {
+    fn frames(&self) -> Frames<'_> {
         self.run.frames()
     }
 
@@ -118,7 +118,7 @@ impl JobState for Traced<'_> {
 /// The function of the innermost of these calls, counted from 0 in the order of the code, and the place of its next
 /// item there. Both are 0 if there are no calls.
 #[inline(always)]
-pub fn place_of(frames: &[Frame]) -> (usize, usize) {
+pub fn place_of(frames: &Frames<'_>) -> (usize, usize) {
     match frames.last() {
         Some(frame) => (frame.function, frame.place),
         None => (0, 0),

@@ -53,7 +53,7 @@ impl Coming {
     #[inline(always)]
     fn of(run: &Run<Global>) -> Option<Coming> {
         let next = Next::of(run)?;
-        let (function, place) = place_of(run.frames());
+        let (function, place) = place_of(&run.frames());
         Some(Coming {
             next,
             function,

@@ -15,7 +15,7 @@ use job_memory::JobMemory;
 use job_slots::laws::{new_is_shown, shown_are_live, shown_are_reached, shown_is_alone};
 use job_slots::{Slot, Status, Turn};
 use job_steps::laws::{early_ends_end, ended_are_over, steps_can_begin};
-use job_steps::{Desk, Frame, Job};
+use job_steps::{Desk, Frames, Job};
 use std::alloc::{AllocError, Allocator};
 use std::marker::Model;
 use vcode_base::{Instr, Instruction, Outcome, Rule, Values};
@@ -289,8 +289,8 @@ impl<A: Allocator> Run<A> {
 
     /// The places at which the active calls go on, that of the innermost last.
     #[inline(always)]
-    pub fn frames(&self) -> &[Frame]
-        ensures { StandAt self.now.task result.now (progress_of self.now) }
+    pub fn frames(&self) -> Frames<'_>
+        ensures { StandAt self.now.task result (progress_of self.now) }
     {
         self.slot.track().frames()
     }

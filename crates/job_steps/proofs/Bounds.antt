@@ -1,6 +1,6 @@
 -- What holds of each state that a job reaches, whatever its program: counts and words within the limits, and tags.
 use Rattle.std.proofs.Common.{◌≡◌, ℕ, ◌+◌, ◌<◌, ◌≤◌, max, Bool, true, false, eqb, List, [], ◌∷◌, length, get_or, Option}
-use Rattle.std.proofs.Common.{None, sym, ◌∙◌, ap, subst, arith, zero, suc}
+use Rattle.std.proofs.Common.{None, ap, subst, arith, zero, suc}
 use Rattle.std.specs.Prelude.{All}
 use Rattle.std.proofs.Math.Nat.{max-le, le-max_right}
 use Rattle.std.proofs.lemmas.Bool.Decides.{nat_tests}
@@ -23,7 +23,7 @@ use Rattle.job_steps.specs.States.{Vector, Task, StackEntry, Active, State, held
 use Rattle.job_steps.specs.Steps.{Progress, Running, Over, next_item, sources_of, question_of, results_of, words_at}
 use Rattle.job_steps.specs.Steps.{is_call, memory_fault, ending_by, calls_after, next_progress}
 use Rattle.job_steps.proofs.Held.{Agree}
-use Rattle.job_steps.proofs.Progresses.{item_of, calls_then, Passes, Goes, goes}
+use Rattle.job_steps.proofs.Progresses.{item_of, calls_then, Passes, goes}
 use Rattle.job_steps.proofs.StackLemmas.{deep_of, All-stack_after, length-stack_after, length-results, held_after}
 use Rattle.job_steps.proofs.StackLemmas.{total_results}
 
@@ -105,7 +105,7 @@ state_past rule item s calls = record {
   peak = max s.peak (words_at rule item s);
 }
 
-unspent_within : (n budget : ℕ) → eqb n budget ≡ false → n ≤ budget → n + 1 ≤ budget
+pub unspent_within : (n budget : ℕ) → eqb n budget ≡ false → n ≤ budget → n + 1 ≤ budget
 unspent_within n budget e h = grind (arith, nat_tests, e, h)
 
 bounded_past : ResultsHaveNeededLengths → (task : Task) (n : ℕ) (s : State) (call : Active) (outer : List Active) →
@@ -120,14 +120,11 @@ bounded_past law task n s call outer b p =
     let old : (k : ℕ) (d : StackEntry) → k < length s.stack → (get_or s.stack k d).tag < s.next = b.tags in
     let young : (k : ℕ) (d : StackEntry) → k < length new → s.next ≤ (get_or new k d).tag = tags_from s.next results in
     let total = total_results law s.next (item_of call) s.stack deep (shaped task s call outer p) p.late in
-    let now : suc (length outer) ≤ task.limits.calls =
-    subst (λ (cs : List Active). length cs ≤ task.limits.calls) p.calls b.calls in
-    let more : is_call op ≡ true → suc (length outer) + 1 ≤ task.limits.calls =
-    (λ h. subst (λ (cs : List Active). length cs + 1 ≤ task.limits.calls) p.calls (fit.calls_fit h)) in
+    let after = held_after task.rule (item_of call) new s b.alike in
+    let long : length s.calls ≡ suc (length outer) = ap length p.calls in
     record {
       count = ap (λ k. k + 1) b.count;
-      budget = unspent_within n task.limits.budget (ap (λ k. eqb k task.limits.budget) (sym b.count)
-          ∙ p.unspent) b.budget;
+      budget = unspent_within n task.limits.budget (rw b.count at p.unspent) b.budget;
       tags = All-stack_after (λ e. e.tag < s.next + length results) op new s.stack (tags_below s.next results)
           (All-weaker (λ e. e.tag < s.next) (λ e. e.tag < s.next + length results) (λ e h. omega arith) s.stack
           b.tags);
@@ -135,18 +132,13 @@ bounded_past law task n s call outer b p =
           (λ k d h j f g. λ e. absurd (omega (arith, young k d h, old j f g)))
           (λ k d h j f g. λ e. absurd (omega (arith, young j f g, old k d h)))
           b.alike;
-      words = omega (arith, held_after task.rule (item_of call) new s b.alike, total, fit.words_fit);
-      held = omega (
-        arith,
-        held_after task.rule (item_of call) new s b.alike,
-        total,
-        le-max_right s.peak (words_at task.rule (item_of call) s),
-      );
+      words = omega (arith, after, total, fit.words_fit);
+      held = omega (arith, after, total, le-max_right s.peak (words_at task.rule (item_of call) s));
       highest = max-le b.highest fit.words_fit;
-      cells = subst (λ m. m ≤ task.limits.cells)
-          (sym (length-stack_after op new s.stack (length-results s.next (question_of (item_of call) s.stack))
-          deep)) fit.cells_fit;
-      calls = length-calls_after task.verified _ call.rest call.ret outer task.limits.calls now more;
+      cells = rw (length-stack_after op new s.stack (length-results s.next (question_of (item_of call) s.stack)) deep)
+          fit.cells_fit;
+      calls = length-calls_after task.verified _ call.rest call.ret outer task.limits.calls
+          (omega (arith, b.calls, long)) (λ h. omega (arith, fit.calls_fit h, long));
     }
 
 -- ---- runs
@@ -168,17 +160,12 @@ pub record Went (task : Task) (s next : State) : Type 0 where
   pub calls : calls_then task s call outer ≡ last ∷ others
   pub new : state_past task.rule (item_of call) s (last ∷ others) ≡ next
 
-went_by : (task : Task) (s next : State) (p : Progress) → Goes task s p → p ≡ Running next → Went task s next
-went_by task s next p h4 e = grind (arith, over_running)
-
 pub went : (task : Task) (s next : State) → next_progress task s ≡ Running next → Went task s next
-went task s next e = went_by task s next (next_progress task s) (goes task s) e
+went task s next e = let h = goes task s in grind (arith, over_running)
 
 pub bounded_next : ResultsHaveNeededLengths → (task : Task) (n : ℕ) (s next : State) → IsBounded task n s →
     Went task s next → IsBounded task (n + 1) next
-bounded_next law task n s next b w =
-    subst (IsBounded task (n + 1)) (ap (state_past task.rule (item_of w.call) s) w.calls ∙ w.new)
-    (bounded_past law task n s w.call w.outer b w.passes)
+bounded_next law task n s next b w = rw (w.calls, w.new) at (bounded_past law task n s w.call w.outer b w.passes)
 
 -- each state that any job reaches is so
 pub bounded : ResultsHaveNeededLengths → (task : Task) (n : ℕ) (s : State) → state_after task n ≡ Running s →

@@ -1,9 +1,9 @@
 -- The frames after an instruction.
 use Rattle.std.proofs.Common.{arith, ◌≡◌, ◌∙◌, ◌+◌, ◌<◌, ℕ, Bool, true, false, List, [], ◌∷◌, length, drop, Option}
-use Rattle.std.proofs.Common.{Some, None, refl, ap, sym, subst}
+use Rattle.std.proofs.Common.{Some, refl, ap, sym, subst}
 use Rattle.std.specs.Prelude.{slice_get, position, if◌then◌else◌, IsSome, max}
 use Rattle.std.specs.Str.{bytes_eq}
-use Rattle.std.proofs.lemmas.Option.{slice_get-map}
+use Rattle.std.proofs.lemmas.Option.{same_Some, slice_get-map}
 use Rattle.vcode_base.specs.declared.instr.Instr.TheVariants as instr
 use Rattle.vcode_base.specs.declared.op.Op.{Op}
 use Rattle.vcode_base.specs.declared.op.Op.TheVariants as op
@@ -14,24 +14,23 @@ use Rattle.vcode_reader.specs.declared.line.CodeItem.{CodeItem}
 use Rattle.vcode_reader.specs.declared.line.CodeItem.TheVariants as code_item
 use Rattle.vcode_reader.specs.Callees.{callee_of as callee_in_line, callees_of, callee_at as callee_at_line}
 use Rattle.vcode_reader.specs.Decode.{then_body}
-use Rattle.vcode_reader.specs.Trees.{Item, Body, Do, Choice, CodeLine, Function, Program, IsBodyInstruction}
+use Rattle.vcode_reader.specs.Trees.{Item, Body, Do, Choice, CodeLine, Function, Program}
 use Rattle.vcode_reader.specs.Trees.{IsProperBody, lines_of}
-use Rattle.signatures.specs.Signatures.{FunctionType}
 use Rattle.verifier.specs.Typed.{TypedProgram}
 use Rattle.job_steps.specs.declared.frame.Frame.{Frame}
 use Rattle.job_steps.specs.Reached.{IsVerifiedBySome}
-use Rattle.job_steps.specs.Frames.{AreActive, IsSettled, StopAt, Stands, StandAll, first_line, lines_from}
-use Rattle.job_steps.specs.Frames.{next_line}
+use Rattle.job_steps.specs.Frames.{AreActive, IsSettled, StopAt, Stands, StandAll, first_line, lines_from, next_line}
 use Rattle.job_steps.specs.Motions.{stack_after}
-use Rattle.job_steps.specs.States.{Task, StackEntry, Active, State, Callee, callee_of, callee_at, callee_named}
+use Rattle.job_steps.specs.Piles.{PileState}
+use Rattle.job_steps.specs.States.{Task, StackEntry, Active, State, Callee, callee_at, callee_named}
 use Rattle.job_steps.specs.States.{calls_with, first_state}
-use Rattle.job_steps.specs.Steps.{first_item, next_item, calls_past, calls_after, can_call, can_run, is_call}
+use Rattle.job_steps.specs.Steps.{first_item, next_item, calls_after, can_run, is_call}
 use Rattle.job_steps.specs.Steps.{question_of, flag_of, words_at, progress_past}
 use Rattle.job_steps.specs.Tracks.{CanCall, CanFollow, Follow, IsCallOf, first_call, functions_of, TrackState, IsAt}
 use Rattle.job_steps.specs.Tracks.{IsWhere, IsDeep, Advances, EachTrackFollows}
 use Rattle.job_steps.proofs.Passing.{remaining_of_all}
 use Rattle.job_steps.proofs.StackLemmas.{length-stack_after, length-results}
-use Rattle.job_steps.proofs.Standing.{stands_at, line_at, line_found}
+use Rattle.job_steps.proofs.Standing.{stands_at, line_at, line_found, next_item_is}
 use Rattle.job_steps.proofs.Typed.{callee}
 
 -- ---- the innermost frame
@@ -46,9 +45,7 @@ pub record IsTop (fs : List Function) (frames : List Frame) (frame : Frame) (cal
 pub top_frame : (fs : List Function) (frames : List Frame) (frame : Frame) (call : Active) (outer : List Active) →
     slice_get frames 0 ≡ Some frame → StandAll fs frames (call ∷ outer) → IsTop fs frames frame call outer
 top_frame fs [] frame call outer e s = absurd s
-top_frame fs (f ∷ frames) frame call outer e s =
-    let same : f ≡ frame = let h : ◌≡◌ {A = Option Frame} (Some f) (Some frame) = e in cc in
-    record { inner = subst (λ x. Stands fs x call) same s.0; others = s.1 }
+top_frame fs (f ∷ frames) frame call outer e s = grind arith
 
 -- ---- the line that is next, by its instruction without list or name
 
@@ -68,17 +65,10 @@ stop_top fs frames frame e settled = grind arith
 call_named : (item : Item) → op_of item ≡ op.Call → (name : List ℕ) × (item ≡ instr.Call name)
 call_named item e = grind arith
 
-is_return : (item : Item) → op_of item ≡ op.Return → item ≡ instr.Return
-is_return item e = grind arith
-
--- no instruction of a body is an IF, which is a choice of two bodies
-no_if : (item : Item) → IsBodyInstruction item → op_of item ≡ op.If → ⊥
-no_if item proper e = grind arith
-
--- the line of an IF
+-- the line of an IF, which no instruction of a proper body is
 if_line : (rest : Body) (ret : ℕ) → IsProperBody rest → op_of (first_item rest ret).item ≡ op.If →
     (first_line rest ret).item ≡ code_item.If
-if_line rest ret proper e = grind (arith, no_if)
+if_line rest ret proper e = grind arith
 
 -- the line of any other instruction
 do_line : (rest : Body) (ret : ℕ) → (op_of (first_item rest ret).item ≡ op.If → ⊥) →
@@ -87,20 +77,10 @@ do_line rest ret other = grind arith
 
 -- ---- the calls after an instruction
 
-do_return : (item : Item) → item ≡ instr.Return → (verified : TypedProgram) (call : Active) (outer : List Active) →
-    calls_past verified item call outer ≡ outer
-do_return item e verified call outer = ap (λ i. calls_past verified i call outer) e
-
-same_item : (i j : Item) → code_item.Do i ≡ code_item.Do j → i ≡ j
-same_item i j e = cc
-
-if_do : (i : Item) → code_item.If ≡ code_item.Do i → ⊥
-if_do i e = cc
-
 module _ (verified : TypedProgram) (flag : Bool) (ret : ℕ) (outer : List Active) where
   after_return : (rest : Body) → (first_line rest ret).item ≡ code_item.Do instr.Return →
       calls_after verified flag rest ret outer ≡ outer
-  after_return rest e = grind (arith, do_return, same_item, if_do)
+  after_return rest e = grind arith
 
 -- none of IF, CALL and RET
 abbrev pub is_plain : Op → Bool
@@ -108,10 +88,6 @@ is_plain op.If = false
 is_plain op.Call = false
 is_plain op.Return = false
 is_plain _ = true
-
-past_plain : (item : Item) → is_plain (op_of item) ≡ true → (verified : TypedProgram) (call : Active)
-    (outer : List Active) → calls_past verified item call outer ≡ call ∷ outer
-past_plain item plain verified call outer = grind arith
 
 -- what the frame after an instruction promises
 abbrev pub IsBehind : List Function → Frame → Frame → Type 0
@@ -139,7 +115,7 @@ module _ (verified : TypedProgram) (frames : List Frame) (frame : Frame) (top : 
         → (first_line rest ret).item ≡ code_item.Do item → Stands (functions_of verified) frame
         (record { rest = rest; ret = ret }) → StandAll (functions_of verified) (drop 1 frames) outer →
         StandAll (functions_of verified) (next ∷ drop 1 frames) (calls_after verified flag rest ret outer)
-    past_by item plain flag rest ret outer e s others = grind (arith, same_item, is_plain, past_plain, if_do)
+    past_by item plain flag rest ret outer e s others = grind (arith, is_plain)
 
     plain_by : (item : Item) → LineIs (code_item.Do item) → is_plain (op_of item) ≡ true → (flag : Bool) →
         Follow verified flag frames (next ∷ drop 1 frames)
@@ -151,14 +127,14 @@ module _ (verified : TypedProgram) (frames : List Frame) (frame : Frame) (top : 
         Stands (functions_of verified) frame (record { rest = rest; ret = ret }) →
         StandAll (functions_of verified) (drop 1 frames) outer → StandAll (functions_of verified)
         (inner ∷ next ∷ drop 1 frames) (calls_after verified flag rest ret outer)
-    call_by name c inner named first flag rest ret outer e s others = grind (arith, same_item)
+    call_by name c inner named first flag rest ret outer e s others = grind arith
 
   module _ (flag : Bool) (part : Frame) (chosen : IsChosen (functions_of verified) flag frame part) where
     part_by : (rest : Body) (ret : ℕ) (outer : List Active) → (first_line rest ret).item ≡ code_item.If →
         Stands (functions_of verified) frame (record { rest = rest; ret = ret }) →
         StandAll (functions_of verified) (drop 1 frames) outer → StandAll (functions_of verified) (part ∷ drop 1 frames)
         (calls_after verified flag rest ret outer)
-    part_by rest ret outer e s others = grind (arith, if_do)
+    part_by rest ret outer e s others = grind arith
 
     if_by : LineIs code_item.If → Follow verified flag frames (part ∷ drop 1 frames)
     if_by line = grind (arith, top_frame, part_by)
@@ -190,7 +166,7 @@ module _ (verified : TypedProgram) (frames : List Frame) (frame : Frame) (top : 
         (can.op_is ∙ is))
 
     pub follow_return : o ≡ op.Return → (flag : Bool) → Follow verified flag frames (drop 1 frames)
-    follow_return is flag = grind (arith, is_return, return_by, do_is)
+    follow_return is flag = grind (arith, return_by, do_is)
 
     pub follow_plain : is_plain o ≡ true → (flag : Bool) (next : Frame) → IsBehind (functions_of verified) frame next →
         Follow verified flag frames (next ∷ drop 1 frames)
@@ -224,6 +200,35 @@ module _ (verified : TypedProgram) (frames : List Frame) (frame : Frame) (top : 
         call_by next behind c.name c.callee inner c.is.is (first c.name c.callee c.is) flag call.rest call.ret outer
         (c.line call t.inner) t.inner t.others
 
+-- the frames that `follow` leaves, over functions that are those of the program
+module _ (verified : TypedProgram) (fs : List Function) (same : fs ≡ functions_of verified) (old new : PileState Frame)
+    (frame : Frame) (top : slice_get old.entries 0 ≡ Some frame) (o : Op)
+    (can : CanFollow verified o old.entries old.room) (settled : IsSettled (functions_of verified) old.entries)
+    (flag : Bool) where
+  pub left_if : o ≡ op.If → (part : Frame) → IsChosen fs flag frame part →
+      new ≡ record old { entries = part ∷ drop 1 old.entries } → Follow verified flag old.entries new.entries
+  left_if is part chosen e =
+      rw e (follow_if verified old.entries frame top o old.room can settled is flag part
+      (subst (λ gs. IsChosen gs flag frame part) same chosen))
+
+  pub left_return : o ≡ op.Return → new ≡ record old { entries = drop 1 old.entries } →
+      Follow verified flag old.entries new.entries
+  left_return is e = rw e (follow_return verified old.entries frame top o old.room can settled is flag)
+
+  pub left_call : o ≡ op.Call → (next inner : Frame) → IsBehind fs frame next → ((name : List ℕ) (callee : Callee) →
+      IsCallOf verified frame name callee → Stands (functions_of verified) inner (first_call callee)) →
+      (between : PileState Frame) → between ≡ record old { entries = next ∷ drop 1 old.entries } →
+      new ≡ record between { entries = inner ∷ between.entries } → Follow verified flag old.entries new.entries
+  left_call is next inner behind first between e f =
+      rw (f, e) (follow_call verified old.entries frame top o old.room can settled is flag next inner
+      (subst (λ gs. IsBehind gs frame next) same behind) first)
+
+  pub left_plain : is_plain o ≡ true → (next : Frame) → IsBehind fs frame next →
+      new ≡ record old { entries = next ∷ drop 1 old.entries } → Follow verified flag old.entries new.entries
+  left_plain plain next behind e =
+      rw e (follow_plain verified old.entries frame top o old.room can settled plain flag next
+      (subst (λ gs. IsBehind gs frame next) same behind))
+
 -- ---- the first frame of a function
 
 abbrev pub frame_of : ℕ → Frame
@@ -233,28 +238,16 @@ starts : (fs : List Function) (place : ℕ) (f : Function) → slice_get fs plac
     Stands fs (frame_of place) (record { rest = f.body; ret = f.ret })
 starts fs place f at = grind (arith, remaining_of_all)
 
-function_in : Option Callee → Option Function
-function_in None = None
-function_in (Some c) = Some c.function
-
-function_is : (a : Option Function) (b : Option FunctionType) (c : Callee) → callee_of a b ≡ Some c →
-    a ≡ Some c.function
-unfolding function_in
-function_is a b c e = grind (arith, function_in)
-
 record PlaceIs (verified : TypedProgram) (o : Option ℕ) (c : Callee) : Type 0 where
   place : ℕ
   is : o ≡ Some place
   there : slice_get verified.program.functions place ≡ Some c.function
 
 place_is : (verified : TypedProgram) (o : Option ℕ) (c : Callee) → callee_at verified o ≡ Some c → PlaceIs verified o c
-place_is verified o c e = grind (arith, function_is)
+place_is verified o c e = grind arith
 
 abbrev is_named : List ℕ → Function → Bool
 is_named name f = bytes_eq f.name name
-
-same_place : (k m : ℕ) → ◌≡◌ {A = Option ℕ} (Some k) (Some m) → k ≡ m
-same_place k m e = cc
 
 -- the place that is found, if the function with the name is called
 pub record Found (verified : TypedProgram) (o : Option ℕ) (c : Callee) : Type 0 where
@@ -263,7 +256,7 @@ pub record Found (verified : TypedProgram) (o : Option ℕ) (c : Callee) : Type 
 
 found_by : (verified : TypedProgram) (name : List ℕ) (o : Option ℕ) (c : Callee) →
     o ≡ position (is_named name) (functions_of verified) → callee_named verified name ≡ Some c → Found verified o c
-found_by verified name o c at named = grind (arith, place_is, is_named, same_place, frame_of, starts)
+found_by verified name o c at named = grind (arith, place_is, is_named, same_Some {A = ℕ}, frame_of, starts)
 
 callee_line : (fs : List Function) (function place : ℕ) (f : Function) (x : CodeLine) → slice_get fs function ≡ Some f →
     slice_get (lines_of f) place ≡ Some x → callee_at_line fs function place ≡ callee_in_line fs x.item
@@ -271,10 +264,11 @@ unfolding callees_of
 callee_line fs function place f x hf hx = grind (arith, slice_get-map)
 
 -- the callee of a CALL
-pub found_call : (verified : TypedProgram) (frame : Frame) (name : List ℕ) (c : Callee) (o : Option ℕ) →
-    StopAt (lines_from (functions_of verified) frame) → IsCallOf verified frame name c →
-    o ≡ callee_at_line (functions_of verified) frame.function frame.place → Found verified o c
-found_call verified frame name c o stop call at =
+pub found_call : (p : Program) (v verified : TypedProgram) (frame : Frame) (name : List ℕ) (c : Callee) (o : Option ℕ) →
+    p ≡ v.program → v ≡ verified → StopAt (lines_from (functions_of verified) frame) →
+    IsCallOf verified frame name c → o ≡ callee_at_line p.functions frame.function frame.place → Found verified o c
+found_call p v verified frame name c o program same stop call here =
+    let at : o ≡ callee_at_line (functions_of verified) frame.function frame.place = cc in
     let s = stands_at (functions_of verified) frame call.call call.stands in
     let item : s.line.item ≡ code_item.Do (instr.Call name) = sym
     (ap (λ (x : CodeLine). x.item) (line_found (functions_of verified) frame call.call call.stands stop)) ∙ call.next in
@@ -292,7 +286,7 @@ pub main_is : (verified : TypedProgram) (o : Option ℕ) → IsVerifiedBySome ve
     o ≡ position (is_named main_name) (functions_of verified) → MainIs verified o
 main_is verified o v at =
     let by = v.1.by_signatures in
-    let main = callee v.0 verified main_name [] verified.results v.1 by.well_kinded.main by.results in
+    let main = callee v.0 verified v.1 main_name [] verified.results by.results by.well_kinded.main in
     let c : Callee = record { function = main.function; arrow = ([], verified.results) } in
     let f = found_by verified main_name o c at main.is in
     let calls : (first_state verified).calls ≡ first_call c ∷ [] = ap (λ k. calls_with k []) main.is in
@@ -313,8 +307,7 @@ pub inner_stands : (verified : TypedProgram) (frames : List Frame) (frame : Fram
     (fs : List Function) → slice_get frames 0 ≡ Some frame → CanFollow verified o frames room →
     fs ≡ functions_of verified → (call : Active) × Stands fs frame call
 inner_stands verified frames frame o room fs top can same =
-    let t = top_frame (functions_of verified) frames frame can.call can.outer top can.stands in
-    (can.call, subst (λ gs. Stands gs frame can.call) (sym same) t.inner)
+    (can.call, rw same (top_frame (functions_of verified) frames frame can.call can.outer top can.stands).inner)
 
 -- and at the line that is executed next
 pub inner_settled : (verified : TypedProgram) (frames : List Frame) (frame : Frame) (fs : List Function) →
@@ -333,14 +326,14 @@ lines_left fs (frame ∷ frames) = length (lines_from fs frame)
 abbrev pub StandToo : List Function → (old new : List Frame) → Type 0
 StandToo fs old new = (calls : List Active) → StandAll fs old calls → StandAll fs new calls
 
--- the innermost frame goes on at another
-pub record HasPassed (fs : List Function) (old new : List Frame) : Type 0 where
-  pub stand : StandToo fs old new
-  pub fewer : lines_left fs new < lines_left fs old
-
 pub top_active : (fs : List Function) (frames : List Frame) (frame : Frame) → slice_get frames 0 ≡ Some frame →
     AreActive fs frames → (call : Active) × Stands fs frame call
 top_active fs frames frame top active = (active.0, (top_frame fs frames frame active.0 active.1 top active.2).inner)
+
+-- what `line` and `settled_line` need, and what `follow` does
+pub ruleset of_next_lines = (top_active, top_frame, stop_top, next_item_is)
+
+pub ruleset of_follow = (same_functions, inner_stands, inner_settled, stop_top, call_is)
 
 -- ---- when a job's next instruction can be followed
 
@@ -350,13 +343,10 @@ pub same_length : (fs : List Function) (frames : List Frame) (calls : List Activ
 same_length fs [] calls s = grind arith
 same_length fs (frame ∷ frames) calls s = grind (arith, (same_length fs frames))
 
-callee_there : (o : Option Callee) (stack : List StackEntry) → can_call o stack ≡ true → (c : Callee) × (o ≡ Some c)
-callee_there o stack e = grind arith
-
 can_call_by : (verified : TypedProgram) (item : Item) (stack : List StackEntry) (active room : ℕ) →
     can_run verified item stack ≡ true → (is_call (op_of item) ≡ true → active < room) →
     CanCall verified item active room
-can_call_by verified item stack active room runs few = grind (arith, callee_there)
+can_call_by verified item stack active room runs few = grind arith
 
 -- An instruction that can run can be followed, if at a CALL there is room for one call more.
 pub can_follow : (verified : TypedProgram) (frames : List Frame) (call : Active) (outer : List Active)

@@ -27,32 +27,11 @@ pub data Changes (task : Task) (event : Event) (old new : Standing) : Type 0 whe
 pub changes : (event : Event) (task : Task) (old new : Standing) → next_standing event task old ≡ Some new →
     Changes task event old new
 changes Admit task Waiting new e = Admits refl refl (sym (same_Some (Live 0) new e))
-changes Admit task (Live n) new e = absurd (none-some new e)
-changes Admit task (InFlight n) new e = absurd (none-some new e)
-changes Admit task Ended new e = absurd (none-some new e)
-changes Admit task Collected new e = absurd (none-some new e)
-changes (Begin job) task Waiting new e = absurd (none-some new e)
-changes (Begin job) task (Live n) new e =
-    Begins job n refl refl (sym (same_Some (standing_after_begin task n (state_after task n)) new e))
-changes (Begin job) task (InFlight n) new e = absurd (none-some new e)
-changes (Begin job) task Ended new e = absurd (none-some new e)
-changes (Begin job) task Collected new e = absurd (none-some new e)
-changes (Finish job) task Waiting new e = absurd (none-some new e)
-changes (Finish job) task (Live n) new e = absurd (none-some new e)
-changes (Finish job) task (InFlight n) new e =
-    Finishes job n refl refl (sym (same_Some (standing_after (n + 1) (state_after task (n + 1))) new e))
-changes (Finish job) task Ended new e = absurd (none-some new e)
-changes (Finish job) task Collected new e = absurd (none-some new e)
-changes (Recall job) task Waiting new e = absurd (none-some new e)
-changes (Recall job) task (Live n) new e = absurd (none-some new e)
+changes (Begin job) task (Live n) new e = Begins job n refl refl (sym (same_Some _ new e))
+changes (Finish job) task (InFlight n) new e = Finishes job n refl refl (sym (same_Some _ new e))
 changes (Recall job) task (InFlight n) new e = Recalls job n refl refl (sym (same_Some (Live n) new e))
-changes (Recall job) task Ended new e = absurd (none-some new e)
-changes (Recall job) task Collected new e = absurd (none-some new e)
-changes (Collect job) task Waiting new e = absurd (none-some new e)
-changes (Collect job) task (Live n) new e = absurd (none-some new e)
-changes (Collect job) task (InFlight n) new e = absurd (none-some new e)
 changes (Collect job) task Ended new e = Collects job refl refl (sym (same_Some Collected new e))
-changes (Collect job) task Collected new e = absurd (none-some new e)
+changes event task old new e = absurd (none-some new e)
 
 -- ---- all jobs
 
@@ -64,12 +43,6 @@ pub record Comes (region : ℕ) (tasks : List Task) (event : Event) (queue : Que
     (next : Option Standing) : Type 0 where
   pub can : is_open region tasks event queue ≡ is_some next
   pub after : after_event region tasks event queue ≡ with_next event o next queue
-
-pub comes : (region : ℕ) (tasks : List Task) (event : Event) (queue : Queue) (o : Option ℕ) (next : Option Standing) →
-    job_of region tasks event queue ≡ o → next_standing_of tasks event queue.standings o ≡ next →
-    Comes region tasks event queue o next
-unfolding is_open after_event
-comes region tasks event queue o next job_is next_is = grind arith
 
 -- an open event, with its job
 pub record Opens (region : ℕ) (tasks : List Task) (event : Event) (queue : Queue) : Type 0 where
@@ -90,78 +63,76 @@ pub data Happens (region : ℕ) (tasks : List Task) (event : Event) (queue : Que
   Opened : is_open region tasks event queue ≡ true → Opens region tasks event queue →
       Happens region tasks event queue
 
-happens_in : (region : ℕ) (tasks : List Task) (event : Event) (queue : Queue) (job : ℕ) (new : Standing) →
-    job_of region tasks event queue ≡ Some job → after_event region tasks event queue ≡ moved_queue event job new queue
-    → (task : Option Task) → of_job job tasks ≡ task → (old : Option Standing) → of_job job queue.standings ≡ old →
-    next_standing_in event task old ≡ Some new → Opens region tasks event queue
-happens_in region tasks event queue job new job_is after None task_is old old_is e = absurd (none-some new e)
-happens_in region tasks event queue job new job_is after (Some task) task_is None old_is e = absurd (none-some new e)
-happens_in region tasks event queue job new job_is after (Some task) task_is (Some old) old_is e = record {
-  job = job;
-  task = task;
-  old = old;
-  new = new;
-  job_is = job_is;
-  task_is = task_is;
-  old_is = old_is;
-  new_is = e;
-  after = ap (λ (q : Queue). q.standings) after;
-  passes = ap (λ (q : Queue). q.passes) after;
-}
+pub comes : (region : ℕ) (tasks : List Task) (event : Event) (queue : Queue) (o : Option ℕ) (next : Option Standing) →
+    job_of region tasks event queue ≡ o → next_standing_of tasks event queue.standings o ≡ next →
+    Comes region tasks event queue o next
+unfolding is_open after_event
+comes region tasks event queue o next job_is next_is = grind arith
 
-happens_next : (region : ℕ) (tasks : List Task) (event : Event) (queue : Queue) (job : ℕ) →
-    job_of region tasks event queue ≡ Some job → (next : Option Standing) →
-    next_standing_of tasks event queue.standings (Some job) ≡ next → Happens region tasks event queue
-happens_next region tasks event queue job job_is None next_is = grind (arith, comes)
-happens_next region tasks event queue job job_is (Some new) next_is =
-    let c = comes region tasks event queue (Some job) (Some new) job_is next_is in
-    Opened c.can (happens_in region tasks event queue job new job_is c.after (of_job job tasks) refl
-    (of_job job queue.standings) refl next_is)
-
-happens_job : (region : ℕ) (tasks : List Task) (event : Event) (queue : Queue) (o : Option ℕ) →
-    job_of region tasks event queue ≡ o → Happens region tasks event queue
-happens_job region tasks event queue None job_is = grind (arith, comes)
-happens_job region tasks event queue (Some job) job_is =
-    happens_next region tasks event queue job job_is (next_standing_of tasks event queue.standings (Some job)) refl
-
-pub happens : (region : ℕ) (tasks : List Task) (event : Event) (queue : Queue) → Happens region tasks event queue
-happens region tasks event queue = grind (arith, happens_job)
-
-pub opens : (region : ℕ) (tasks : List Task) (event : Event) (queue : Queue) → is_open region tasks event queue ≡ true →
-    Opens region tasks event queue
-opens region tasks event queue can = grind (arith, false≢true, happens)
-
--- an event is open if its job has a next standing by it
-pub open_where : (region : ℕ) (tasks : List Task) (event : Event) (queue : Queue) (job : ℕ) (task : Task)
-    (old new : Standing) → job_of region tasks event queue ≡ Some job → of_job job tasks ≡ Some task →
-    of_job job queue.standings ≡ Some old → next_standing event task old ≡ Some new →
-    is_open region tasks event queue ≡ true
-open_where region tasks event queue job task old new job_is task_is old_is new_is = grind (arith, comes)
-
--- the job that an event names is its job
-pub named : (region : ℕ) (tasks : List Task) (event : Event) (queue : Queue) (job : ℕ) → named_job event ≡ Some job →
-    job_of region tasks event queue ≡ Some job
-named region tasks event queue job e = grind (arith, none-some)
-
--- ---- an event by its job
-
-pub changes_its_job : (region : ℕ) (tasks : List Task) (event : Event) (queue : Queue) (job : ℕ) (task : Task)
-    (old : Standing) → job_of region tasks event queue ≡ Some job → of_job job tasks ≡ Some task →
-    of_job job queue.standings ≡ Some old → ChangesItsJob region tasks event queue job task old
-changes_its_job region tasks event queue job task old job_is task_is old_is =
-    let here : next_standing_of tasks event queue.standings (Some job) ≡ next_standing event task old =
-    (λ i. next_standing_in event (task_is i) (old_is i)) in
-    let c = comes region tasks event queue (Some job) (next_standing event task old) job_is here in
-    record {
-      open_where = c.can;
-      passed = λ none. c.after ∙ ap (λ o. with_next event (Some job) o queue) none;
-      changed = λ new is. c.after ∙ ap (λ o. with_next event (Some job) o queue) is;
+module _ (region : ℕ) (tasks : List Task) (event : Event) (queue : Queue) where
+  module _ (job : ℕ) (job_is : job_of region tasks event queue ≡ Some job) where
+    happens_in : (new : Standing) → after_event region tasks event queue ≡ moved_queue event job new queue →
+        (task : Option Task) → of_job job tasks ≡ task → (old : Option Standing) → of_job job queue.standings ≡ old →
+        next_standing_in event task old ≡ Some new → Opens region tasks event queue
+    happens_in new after (Some task) task_is (Some old) old_is e = record {
+      job = job;
+      task = task;
+      old = old;
+      new = new;
+      job_is = job_is;
+      task_is = task_is;
+      old_is = old_is;
+      new_is = e;
+      after = ap (λ (q : Queue). q.standings) after;
+      passes = ap (λ (q : Queue). q.passes) after;
     }
+    happens_in new after task task_is old old_is e = absurd (none-some new e)
 
-pub closed_changes_nothing : (region : ℕ) (tasks : List Task) (event : Event) (queue : Queue) →
-    is_open region tasks event queue ≡ false → after_event region tasks event queue ≡ queue
-closed_changes_nothing region tasks event queue closed = grind (arith, false≢true, happens)
+    happens_next : (next : Option Standing) → next_standing_of tasks event queue.standings (Some job) ≡ next →
+        Happens region tasks event queue
+    happens_next None next_is = grind (arith, comes)
+    happens_next (Some new) next_is =
+        let c = comes region tasks event queue (Some job) (Some new) job_is next_is in
+        Opened c.can (happens_in new c.after _ refl _ refl next_is)
 
-pub missing_is_closed : (region : ℕ) (tasks : List Task) (event : Event) (queue : Queue) (job : ℕ) →
-    named_job event ≡ Some job → of_job job queue.standings ≡ None → is_open region tasks event queue ≡ false
-missing_is_closed region tasks event queue job e missing = grind (arith, comes, named)
+  happens_job : (o : Option ℕ) → job_of region tasks event queue ≡ o → Happens region tasks event queue
+  happens_job None job_is = grind (arith, comes)
+  happens_job (Some job) job_is = happens_next job job_is _ refl
+
+  pub happens : Happens region tasks event queue
+  happens = happens_job _ refl
+
+  pub opens : is_open region tasks event queue ≡ true → Opens region tasks event queue
+  opens can = grind (arith, false≢true, happens)
+
+  -- an event is open if its job has a next standing by it
+  pub open_where : (job : ℕ) (task : Task) (old new : Standing) → job_of region tasks event queue ≡ Some job →
+      of_job job tasks ≡ Some task → of_job job queue.standings ≡ Some old → next_standing event task old ≡ Some new →
+      is_open region tasks event queue ≡ true
+  open_where job task old new job_is task_is old_is new_is = grind (arith, comes)
+
+  -- the job that an event names is its job
+  pub named : (job : ℕ) → named_job event ≡ Some job → job_of region tasks event queue ≡ Some job
+  named job e = grind (arith, none-some)
+
+  -- ---- an event by its job
+
+  pub changes_its_job : (job : ℕ) (task : Task) (old : Standing) → job_of region tasks event queue ≡ Some job →
+      of_job job tasks ≡ Some task → of_job job queue.standings ≡ Some old →
+      ChangesItsJob region tasks event queue job task old
+  changes_its_job job task old job_is task_is old_is =
+      let c = comes region tasks event queue (Some job) (next_standing event task old) job_is
+      (λ i. next_standing_in event (task_is i) (old_is i)) in
+      record {
+        open_where = c.can;
+        passed = λ none. c.after ∙ ap (λ o. with_next event (Some job) o queue) none;
+        changed = λ new is. c.after ∙ ap (λ o. with_next event (Some job) o queue) is;
+      }
+
+  pub closed_changes_nothing : is_open region tasks event queue ≡ false →
+      after_event region tasks event queue ≡ queue
+  closed_changes_nothing closed = grind (arith, false≢true, happens)
+
+  pub missing_is_closed : (job : ℕ) → named_job event ≡ Some job → of_job job queue.standings ≡ None →
+      is_open region tasks event queue ≡ false
+  missing_is_closed job e missing = grind (arith, comes, named)

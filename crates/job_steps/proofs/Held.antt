@@ -1,7 +1,7 @@
 -- The words that a stack holds, if entries with one tag have one value.
 use Rattle.std.proofs.Common.{rules, ◌≡◌, ℕ, ◌+◌, ◌≤◌, Bool, true, false, cond, eqb, not, List, [], ◌∷◌, ◌++◌, length}
 use Rattle.std.proofs.Common.{refl, sym, ap, subst, inl, inr, arith}
-use Rattle.std.specs.Prelude.{All, ◌⊎◌, ◌||◌, filter}
+use Rattle.std.specs.Prelude.{All, ◌⊎◌, filter}
 use Rattle.std.proofs.lemmas.List.Elements.{All-nil, All-cons, All-head, All-tail, All-weaker, All-filter}
 use Rattle.job_steps.specs.States.{Vector, StackEntry, has_tag, held_words}
 use Rattle.job_steps.specs.Reached.{AreAlike}
@@ -27,30 +27,19 @@ others_same : (tag : ℕ) (xs : List StackEntry) → has_tag tag xs ≡ false �
 others_same tag [] e = refl
 others_same tag (x ∷ xs) e = grind (arith, others, (others_same tag xs))
 
--- the first of a list with the entries of other tags after it
-has_chosen : (tag other : ℕ) (x : StackEntry) (xs : List StackEntry) → eqb other tag ≡ false →
-    has_tag other (others tag xs) ≡ has_tag other xs → (b : Bool) → eqb x.tag tag ≡ b →
-    has_tag other (cond (not b) (x ∷ others tag xs) (others tag xs)) ≡ (eqb x.tag other || has_tag other xs)
-has_chosen tag other x xs d later b p = grind arith
-
 has_others : (tag other : ℕ) (xs : List StackEntry) → eqb other tag ≡ false →
     has_tag other (others tag xs) ≡ has_tag other xs
 has_others tag other [] d = refl
-has_others tag other (x ∷ xs) d = has_chosen tag other x xs d (has_others tag other xs d) (eqb x.tag tag) refl
-
-held_chosen : (tag size : ℕ) (x : StackEntry) (xs : List StackEntry) → IsLong tag size x →
-    (has_tag tag xs ≡ true → held_words xs ≡ size + held_words (others tag xs)) → (b : Bool) → eqb x.tag tag ≡ b →
-    (b || has_tag tag xs) ≡ true → cond (has_tag x.tag xs) 0 (length x.value.words) + held_words xs ≡ size + held_words
-    (cond (not b) (x ∷ others tag xs) (others tag xs))
-held_chosen tag size x xs long later b p e = grind (arith, others_same, has_others)
+has_others tag other (x ∷ xs) d = grind (arith, others, (has_others tag other xs d))
 
 -- a tag's value counts once
 held_others : (tag size : ℕ) (xs : List StackEntry) → All (IsLong tag size) xs → has_tag tag xs ≡ true →
     held_words xs ≡ size + held_words (others tag xs)
 held_others tag size [] long e = absurd (let h : false ≡ true = e in cc)
 held_others tag size (x ∷ xs) long e =
-    held_chosen tag size x xs (All-head (IsLong tag size) x xs long)
-    (held_others tag size xs (All-tail (IsLong tag size) x xs long)) (eqb x.tag tag) refl e
+    let here = All-head (IsLong tag size) x xs long in
+    let later = held_others tag size xs (All-tail (IsLong tag size) x xs long) in
+    grind (arith, others, others_same, has_others, here, later)
 
 kept : (tag : ℕ) (xs : List StackEntry) (e : StackEntry) → eqb e.tag tag ≡ false → Has xs e → Has (others tag xs) e
 kept tag [] e d h = absurd h
@@ -82,14 +71,8 @@ among_others : (tag : ℕ) (xs ys : List StackEntry) → All (λ e. eqb e.tag ta
     All (Has (others tag xs)) ys
 among_others tag xs [] p q = All-nil (Has (others tag xs))
 among_others tag xs (y ∷ ys) p q =
-    search (
-      rules,
-      All-cons,
-      kept,
-      All-head,
-      All-tail,
-      (among_others tag xs ys (All-tail (λ e. eqb e.tag tag ≡ false) y ys p) (All-tail (Has xs) y ys q)),
-    )
+    let rest = among_others tag xs ys (All-tail (λ e. eqb e.tag tag ≡ false) y ys p) (All-tail (Has xs) y ys q) in
+    search (rules, All-cons, kept, All-head, rest)
 
 among_chosen : (y : StackEntry) (ys xs : List StackEntry) → All (Has xs) (y ∷ ys) → Agree xs →
     ((zs : List StackEntry) → All (Has zs) ys → Agree zs → held_words ys ≤ held_words zs) → (b : Bool) →
@@ -118,9 +101,6 @@ abbrev pub total_words : List StackEntry → ℕ
 total_words [] = 0
 total_words (e ∷ es) = length e.value.words + total_words es
 
-counted : (b : Bool) (n m k : ℕ) → m ≤ k → cond b 0 n + m ≤ n + k
-counted b n m k h = grind arith
-
 pub held_append : (xs ys : List StackEntry) → held_words (xs ++ ys) ≤ total_words xs + held_words ys
 held_append [] ys = omega arith
-held_append (x ∷ xs) ys = grind (arith, counted, (held_append xs ys))
+held_append (x ∷ xs) ys = grind (arith, (held_append xs ys))

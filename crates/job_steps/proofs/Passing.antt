@@ -5,13 +5,13 @@ use Rattle.std.specs.Prelude.{slice_get}
 use Rattle.std.proofs.lemmas.List.{drop-drop}
 use Rattle.vcode_base.specs.declared.instr.Instr.TheVariants.{Return}
 use Rattle.vcode_reader.specs.declared.line.CodeItem.{CodeItem}
-use Rattle.vcode_reader.specs.declared.line.CodeItem.TheVariants as code_item
 use Rattle.vcode_reader.specs.Decode.{Tail, Waits, ForElse, ForIf, before, before_else, before_if, tail_of, then_body}
 use Rattle.vcode_reader.specs.Targets.{Jumps, first_of, jumps_before, jumps_from, target_in, target_at}
 use Rattle.vcode_reader.specs.Targets.{EachTargetIsFirst}
 use Rattle.vcode_reader.specs.Trees.{Item, Body, End, Do, Choice, CodeLine, Function, line_of, instruction_line}
 use Rattle.vcode_reader.specs.Trees.{body_lines, lines_of}
-use Rattle.job_steps.specs.Frames.{rest_behind, rest_of_tail, remaining}
+use Rattle.job_steps.specs.Frames.{rest_behind, rest_of_tail, remaining, EachLineRemains}
+use Rattle.vcode_reader.specs.declared.line.CodeItem.TheVariants as code_item
 
 -- ---- bodies one after another
 
@@ -36,19 +36,12 @@ regroup : (x y b rest : List CodeLine) (i m n : CodeLine) → (i ∷ (x ++ (m �
     (x ++ (m ∷ (y ++ (n ∷ (b ++ rest)))))
 regroup x y b rest i m n = simp append_assoc
 
-choice : ℕ → Body → Body → ℕ → Body → List Waits → Tail
-choice l x y e b ws = record { body = Choice l x y e b; waits = ws }
-
 pub tail_of_body : (b : Body) (xs : List CodeLine) → tail_of (body_lines b ++ xs) ≡ then_tail b (tail_of xs)
-unfolding tail_of then_tail then_body choice
+unfolding tail_of then_tail then_body
 tail_of_body End xs = refl
 tail_of_body (Do i l b) xs = ap (before (code_item.Do i) l) (tail_of_body b xs)
 tail_of_body (Choice l x y e b) xs =
-    ap tail_of (regroup (body_lines x) (body_lines y) (body_lines b) xs (line_of code_item.If l) (line_of code_item.Else
-    l) (line_of code_item.Endif e)) ∙ (ap (before code_item.If l) (tail_of_body x _ ∙ ap (then_tail x) (ap (before
-    code_item.Else l) (tail_of_body y _ ∙ ap (then_tail y) (ap (before code_item.Endif e) (tail_of_body b xs))))) ∙ (ap
-    (λ z. choice l z (then_body y End) e (then_body b (tail_of xs).body) (tail_of xs).waits) (then_end x) ∙ ap (λ z.
-    choice l x z e (then_body b (tail_of xs).body) (tail_of xs).waits) (then_end y)))
+    grind (arith, regroup, then_end, (tail_of_body x), (tail_of_body y), (tail_of_body b xs))
 
 waits_of_body : (b : Body) (xs : List CodeLine) → (tail_of (body_lines b ++ xs)).waits ≡ (tail_of xs).waits
 unfolding then_tail
@@ -62,14 +55,11 @@ remaining_of_all f = grind (arith, tail_of_body, then_end)
 -- ---- lines each of which finds what it needs after it
 
 abbrev FitsBefore : CodeItem Item → List Waits → Type 0
-FitsBefore (code_item.Do i) ws = Unit {0}
-FitsBefore code_item.If [] = ⊥
-FitsBefore code_item.If (ForElse e r ∷ ws) = ⊥
 FitsBefore code_item.If (ForIf s e r ∷ ws) = Unit {0}
-FitsBefore code_item.Else [] = ⊥
+FitsBefore code_item.If ws = ⊥
 FitsBefore code_item.Else (ForElse e r ∷ ws) = Unit {0}
-FitsBefore code_item.Else (ForIf s e r ∷ ws) = ⊥
-FitsBefore code_item.Endif ws = Unit {0}
+FitsBefore code_item.Else ws = ⊥
+FitsBefore item ws = Unit {0}
 
 abbrev Fits : List CodeLine → Type 0
 Fits [] = Unit {0}
@@ -84,18 +74,7 @@ unfolding tail_of
 fits_body End xs h = h
 fits_body (Do i l b) xs h = (tt, fits_body b xs h)
 fits_body (Choice l x y e b) xs h =
-    let m = line_of code_item.Else l in
-    let n = line_of code_item.Endif e in
-    let behind : Fits (n ∷ (body_lines b ++ xs)) = (tt, fits_body b xs h) in
-    let second : Fits (body_lines y ++ (n ∷ (body_lines b ++ xs))) = fits_body y _ behind in
-    let for_else = waits_of_body y (n ∷ (body_lines b ++ xs)) in
-    let between : Fits (m ∷ (body_lines y ++ (n ∷ (body_lines b ++ xs)))) =
-    (subst (FitsBefore code_item.Else) (sym for_else) tt, second) in
-    let first = fits_body x _ between in
-    let for_if = waits_of_body x (m ∷ (body_lines y ++ (n ∷ (body_lines b ++ xs)))) ∙ ap
-    (λ ws. (before_else (tail_of (body_lines y ++ (n ∷ (body_lines b ++ xs)))).body ws).waits) for_else in
-    subst Fits (sym (regroup (body_lines x) (body_lines y) (body_lines b) xs (line_of code_item.If l) m n))
-    (subst (FitsBefore code_item.If) (sym for_if) tt, first)
+    grind (arith, regroup, waits_of_body, (fits_body x), (fits_body y), (fits_body b xs h))
 
 fits : (f : Function) → Fits (lines_of f)
 unfolding tail_of
@@ -157,19 +136,16 @@ passes_by : (whole : List CodeLine) (p l : ℕ) (b : Body) (ws : List Waits) (qs
     FitsBefore code_item.Else ws → Agree whole p ws qs → (EachTargetIsFirst → target_at whole p ≡ first_of qs) →
     remaining (drop p whole) ≡ rest_of_tail (before_else b ws) → PassesElse whole p
 unfolding then_body
-passes_by whole p l b [] qs fit h target here = absurd fit
-passes_by whole p l b (ForIf s e r ∷ ws) qs fit h target here = absurd fit
 passes_by whole p l b (ForElse e r ∷ ws) [] fit h target here = absurd h
 passes_by whole p l b (ForElse e r ∷ ws) (q ∷ qs) fit h target here =
     record { next = q; target = target; later = h.0; same = ap rest_of_tail h.1 ∙ sym here }
+passes_by whole p l b ws qs fit h target here = absurd fit
 
 pub chooses_by : (whole : List CodeLine) (p l : ℕ) (b : Body) (ws : List Waits) (qs : List ℕ) →
     FitsBefore code_item.If ws → Agree whole p ws qs → (EachTargetIsFirst → target_at whole p ≡ first_of qs) →
     remaining (drop p whole) ≡ rest_of_tail (before_if l b ws) →
     remaining (drop (p + 1) whole) ≡ then_body b (rest_behind ws) → Chooses whole p l
 unfolding then_body
-chooses_by whole p l b [] qs fit h target here on = absurd fit
-chooses_by whole p l b (ForElse e r ∷ ws) qs fit h target here on = absurd fit
 chooses_by whole p l b (ForIf s e r ∷ ws) [] fit h target here on = absurd h
 chooses_by whole p l b (ForIf s e r ∷ ws) (q ∷ qs) fit h target here on = record {
   first = b;
@@ -182,6 +158,7 @@ chooses_by whole p l b (ForIf s e r ∷ ws) (q ∷ qs) fit h target here on = re
   target = target;
   other = ap rest_of_tail h.1;
 }
+chooses_by whole p l b ws qs fit h target here on = absurd fit
 
 module _ (f : Function) (p l : ℕ) (xs : List CodeLine) where
   whole : List CodeLine
@@ -230,3 +207,34 @@ remaining_endif l xs = refl
 pub remaining_nothing : remaining [] ≡ End
 unfolding tail_of then_body
 remaining_nothing = refl
+
+-- the parts of an IF, with an ENDIF after the second
+module _ (first second : Body) (end : ℕ) (rest : List CodeLine) where
+  tail : Tail
+  tail = tail_of rest
+
+  tail_at_endif : tail_of (body_lines second ++ line_of code_item.Endif end ∷ rest) ≡ record
+      { body = second; waits = ForElse end (tail_of rest).body ∷ (tail_of rest).waits }
+  unfolding tail_of then_tail then_body
+  tail_at_endif = grind (arith, tail_of_body, line_of, then_end)
+
+  tail_at_else : (number : ℕ) → tail_of (body_lines first ++ line_of code_item.Else number ∷
+      (body_lines second ++ line_of code_item.Endif end ∷ rest)) ≡ record
+      { body = first; waits = ForIf second end (tail_of rest).body ∷ (tail_of rest).waits }
+  unfolding tail_of then_tail then_body
+  tail_at_else number = grind (arith, tail_of_body, then_tail, tail_at_endif, then_end)
+
+  remaining_else : (number : ℕ) → remaining (line_of code_item.Else number ∷
+      (body_lines second ++ line_of code_item.Endif end ∷ rest)) ≡ remaining rest
+  unfolding tail_of then_body
+  remaining_else number = ap (λ t. rest_of_tail (before code_item.Else number t)) tail_at_endif
+
+  remaining_if : (line number : ℕ) → remaining (line_of code_item.If line ∷
+      (body_lines first ++ line_of code_item.Else number ∷ (body_lines second ++ line_of code_item.Endif end ∷ rest))) ≡
+      Choice line first second end (remaining rest)
+  unfolding tail_of then_body
+  remaining_if line number = ap (λ t. rest_of_tail (before code_item.If line t)) (tail_at_else number)
+
+pub each_line_remains : EachLineRemains
+each_line_remains item line number end first second rest =
+    grind (arith, remaining_nothing, remaining_do, remaining_if, remaining_else, remaining_endif)

@@ -3,7 +3,7 @@ use Rattle.std.proofs.Common.{arith, ◌≡◌, ℕ, Bool, true, false, cond, eq
 use Rattle.vcode_base.specs.declared.fault.DataFault.{DataFault}
 use Rattle.vcode_base.specs.declared.fault.MemoryFault.{MemoryFault}
 use Rattle.vcode_base.specs.declared.outcome.Outcome.{Outcome}
-use Rattle.vcode_base.specs.declared.outcome.Outcome.TheVariants.{Returned, Fault, Memory, Budget}
+use Rattle.vcode_base.specs.declared.outcome.Outcome.TheVariants.{Returned, Fault, Budget}
 use Rattle.vcode_base.specs.Instructions.{op_of}
 use Rattle.vcode_base.specs.Meaning.{value_fault}
 use Rattle.vcode_reader.specs.Trees.{Item}
@@ -31,9 +31,7 @@ pub record Passes (task : Task) (s : State) (call : Active) (outer : List Active
 -- no end by return
 abbrev pub IsNoReturn : Outcome (List Vector) → Type 0
 IsNoReturn (Returned values) = ⊥
-IsNoReturn (Fault fault line) = Unit {0}
-IsNoReturn (Memory fault line) = Unit {0}
-IsNoReturn Budget = Unit {0}
+IsNoReturn ending = Unit {0}
 
 -- a progress is one of these
 pub data Goes (task : Task) (s : State) (p : Progress) : Type 0 where
@@ -48,41 +46,39 @@ no_return : (line : ℕ) (a : Option DataFault) (b : Option MemoryFault) (e : Ou
     ending_by line a b ≡ Some e → IsNoReturn e
 no_return line a b e h = grind arith
 
-by_values : (task : Task) (s : State) (call : Active) (outer : List Active) → s.calls ≡ call ∷ outer →
-    eqb s.executed task.limits.budget ≡ false → can_run task.verified (item_of call) s.stack ≡ true →
-    early_ending task (next_item call) s ≡ None → (o : Option DataFault) →
-    value_fault (op_of (item_of call)) (sources_of (item_of call) s.stack) ≡ o →
-    Goes task s (progress_by task.rule o (next_item call) s (calls_then task s call outer))
-by_values task s call outer calls unspent runs early (Some fault) is =
-    Ends (Fault fault (next_item call).number) tt refl
-by_values task s call outer calls unspent runs early None is =
-    Executes call outer (record { calls = calls; unspent = unspent; runs = runs; early = early; late = is }) refl
+module _ (task : Task) (s : State) where
+  module _ (unspent : eqb s.executed task.limits.budget ≡ false) (call : Active) (outer : List Active)
+      (calls : s.calls ≡ call ∷ outer) where
+    by_values : can_run task.verified (item_of call) s.stack ≡ true → early_ending task (next_item call) s ≡ None →
+        (o : Option DataFault) → value_fault (op_of (item_of call)) (sources_of (item_of call) s.stack) ≡ o →
+        Goes task s (progress_by task.rule o (next_item call) s (calls_then task s call outer))
+    by_values runs early (Some fault) is = Ends (Fault fault (next_item call).number) tt refl
+    by_values runs early None is =
+        Executes call outer (record { calls = calls; unspent = unspent; runs = runs; early = early; late = is }) refl
 
-by_ending : (task : Task) (s : State) (call : Active) (outer : List Active) → s.calls ≡ call ∷ outer →
-    eqb s.executed task.limits.budget ≡ false → can_run task.verified (item_of call) s.stack ≡ true →
-    (o : Option (Outcome (List Vector))) → early_ending task (next_item call) s ≡ o →
-    Goes task s (progress_unless o s (progress_by task.rule (value_fault (op_of (item_of call))
-    (sources_of (item_of call) s.stack)) (next_item call) s (calls_then task s call outer)))
-by_ending task s call outer calls unspent runs (Some ending) is = Ends ending (no_return _ _ _ ending is) refl
-by_ending task s call outer calls unspent runs None is = by_values task s call outer calls unspent runs is _ refl
+    by_ending : can_run task.verified (item_of call) s.stack ≡ true → (o : Option (Outcome (List Vector))) →
+        early_ending task (next_item call) s ≡ o → Goes task s (progress_unless o s (progress_by task.rule
+        (value_fault (op_of (item_of call)) (sources_of (item_of call) s.stack)) (next_item call) s
+        (calls_then task s call outer)))
+    by_ending runs (Some ending) is = Ends ending (no_return _ _ _ ending is) refl
+    by_ending runs None is = by_values runs is _ refl
 
-by_run : (task : Task) (s : State) (call : Active) (outer : List Active) → s.calls ≡ call ∷ outer →
-    eqb s.executed task.limits.budget ≡ false → (b : Bool) → can_run task.verified (item_of call) s.stack ≡ b →
-    Goes task s (cond b (progress_unless (early_ending task (next_item call) s) s
-    (progress_by task.rule (value_fault (op_of (item_of call)) (sources_of (item_of call) s.stack)) (next_item call) s
-    (calls_then task s call outer))) Stuck)
-by_run task s call outer calls unspent true is = by_ending task s call outer calls unspent is _ refl
-by_run task s call outer calls unspent false is = Blocks call outer calls is refl
+    by_run : (b : Bool) → can_run task.verified (item_of call) s.stack ≡ b → Goes task s
+        (cond b (progress_unless (early_ending task (next_item call) s) s (progress_by task.rule (value_fault
+        (op_of (item_of call)) (sources_of (item_of call) s.stack)) (next_item call) s (calls_then task s call outer)))
+        Stuck)
+    by_run true is = by_ending is _ refl
+    by_run false is = Blocks call outer calls is refl
 
-by_calls : (task : Task) (s : State) → eqb s.executed task.limits.budget ≡ false → (calls : List Active) →
-    s.calls ≡ calls → Goes task s (progress_in task s calls)
-by_calls task s unspent [] is = Idles is refl
-by_calls task s unspent (call ∷ outer) is = by_run task s call outer is unspent _ refl
+  by_calls : eqb s.executed task.limits.budget ≡ false → (calls : List Active) → s.calls ≡ calls →
+      Goes task s (progress_in task s calls)
+  by_calls unspent [] is = Idles is refl
+  by_calls unspent (call ∷ outer) is = by_run unspent call outer is _ refl
 
-by_budget : (task : Task) (s : State) (b : Bool) → eqb s.executed task.limits.budget ≡ b →
-    Goes task s (cond b (Over Budget s.executed s.peak) (progress_in task s s.calls))
-by_budget task s true is = Ends Budget tt refl
-by_budget task s false is = by_calls task s is s.calls refl
+  by_budget : (b : Bool) → eqb s.executed task.limits.budget ≡ b →
+      Goes task s (cond b (Over Budget s.executed s.peak) (progress_in task s s.calls))
+  by_budget true is = Ends Budget tt refl
+  by_budget false is = by_calls is s.calls refl
 
 pub goes : (task : Task) (s : State) → Goes task s (next_progress task s)
 unfolding next_progress

@@ -1,28 +1,125 @@
--- The stack after an instruction: how many entries it has, which entries these are, and their kinds.
-use Rattle.std.proofs.Common.{◌≡◌, ℕ, ◌+◌, ◌-◌, ◌≤◌, true, List, [], ◌∷◌, ◌++◌, length, map, take, drop, None, refl}
-use Rattle.std.proofs.Common.{sym, ◌∙◌, ap, subst, arith, zero, suc}
-use Rattle.std.specs.Prelude.{All, reverse}
-use Rattle.std.proofs.lemmas.List.{length-append, length-take, length-drop, length-reverse, length-map}
+-- The kinds of stacks, and the stack after an instruction: how many entries it has, and which these are.
+use Rattle.std.proofs.Common.{◌≡◌, ℕ, ◌+◌, ◌≤◌, true, List, [], ◌∷◌, ◌++◌, length, map, take, drop, refl, sym, ◌∙◌, ap}
+use Rattle.std.proofs.Common.{arith, None, subst, zero, suc}
+use Rattle.std.specs.Prelude.{reverse, All}
+use Rattle.std.proofs.lemmas.List.{length-append, length-take, length-drop, length-reverse, length-map, map-append}
+use Rattle.std.proofs.lemmas.List.{reverse-append, reverse-reverse, take-append-drop, append_assoc}
+use Rattle.vcode_base.specs.declared.kind.Kind.{Kind}
+use Rattle.vcode_base.specs.declared.op.StackMove.{StackMove}
+use Rattle.vcode_base.specs.Kinds.{are_same_kinds, result_kinds}
+use Rattle.vcode_base.specs.Motions.{entries_after_move}
+use Rattle.job_steps.specs.Motions.{top_entries, stack_after_move, operand_count, stack_after, depth_after}
+use Rattle.job_steps.specs.States.{StackEntry, stack_kinds, State, words_of, held_words, new_entries}
+use Rattle.job_steps.specs.Steps.{has_on_top, sources_of, question_of, results_of, can_run, held_at}
 use Rattle.std.proofs.lemmas.List.Elements.{All-append, All-take, All-drop, All-nil, All-cons, All-head, All-tail}
 use Rattle.vcode_base.specs.declared.op.Op.{Op}
-use Rattle.vcode_base.specs.declared.op.Op.TheVariants.{Const, Elementwise, Segmented, If, Move, Call, Return}
-use Rattle.vcode_base.specs.declared.op.StackMove.{StackMove}
+use Rattle.vcode_base.specs.declared.op.Op.TheVariants.{Move}
 use Rattle.vcode_base.specs.declared.op.StackMove.TheVariants.{Copy, Pop, MoveToTop}
 use Rattle.vcode_base.specs.declared.rule.Rule.{Rule}
 use Rattle.vcode_base.specs.Instructions.{op_of}
-use Rattle.vcode_base.specs.Kinds.{result_kinds}
 use Rattle.vcode_base.specs.Laws.{ResultsHaveNeededLengths}
 use Rattle.vcode_base.specs.Meaning.{shape, value_fault}
-use Rattle.vcode_base.specs.Motions.{entries_after_move}
 use Rattle.vcode_reader.specs.Trees.{Item}
 use Rattle.verifier.specs.Typed.{TypedProgram}
-use Rattle.job_steps.specs.Motions.{top_entries, operand_count, stack_after, stack_after_move, depth_after}
-use Rattle.job_steps.specs.States.{StackEntry, State, words_of, held_words, new_entries}
 use Rattle.job_steps.specs.Questions.{Question, need_words}
-use Rattle.job_steps.specs.Steps.{sources_of, question_of, results_of, can_run, held_at}
 use Rattle.job_steps.specs.Tracks.{IsDeep}
 use Rattle.job_steps.proofs.Held.{Has, has_itself, Agree, held_among, held_append, total_words}
-use Rattle.job_steps.proofs.KindLemmas.{kind_of, reverse-cons, there}
+
+abbrev pub kind_of : StackEntry → Kind
+kind_of e = e.value.kind
+
+pub stack_kinds-append : (xs ys : List StackEntry) → stack_kinds (xs ++ ys) ≡ stack_kinds ys ++ stack_kinds xs
+stack_kinds-append xs ys = ap reverse (map-append kind_of xs ys) ∙ reverse-append (map kind_of xs) (map kind_of ys)
+
+pub length-stack_kinds : (xs : List StackEntry) → length (stack_kinds xs) ≡ length xs
+length-stack_kinds xs = length-reverse (map kind_of xs) ∙ length-map xs kind_of
+
+pub reverse-cons : {A : Type 0} (x : A) (xs : List A) → reverse (x ∷ xs) ≡ reverse xs ++ x ∷ []
+reverse-cons x xs = reverse-append (x ∷ []) xs
+
+pub map-reverse : {A B : Type 0} (f : A → B) (xs : List A) → map f (reverse xs) ≡ reverse (map f xs)
+map-reverse f [] = refl
+map-reverse f (x ∷ xs) = grind (arith, reverse-cons, map-append, (map-reverse f xs))
+
+-- ---- two lists one after another, split at the begin of the second
+
+pub record IsSplit (xs ys zs ws : List Kind) : Type 0 where
+  pub front : xs ≡ zs
+  pub back : ys ≡ ws
+
+pub split_same : (xs ys zs ws : List Kind) → xs ++ ys ≡ zs ++ ws → length ys ≡ length ws → IsSplit xs ys zs ws
+split_same [] ys [] ws e n = record { front = refl; back = e }
+split_same [] ys (z ∷ zs) ws e n = grind (arith, length-append)
+split_same (x ∷ xs) ys [] ws e n = grind (arith, length-append)
+split_same (x ∷ xs) ys (z ∷ zs) ws e n = grind (arith, (split_same xs ys zs ws))
+
+-- the top entries of a stack and those below them
+pub record IsCut (stack : List StackEntry) (below own : List Kind) : Type 0 where
+  pub deep : length own ≤ length stack
+  pub top : stack_kinds (take (length own) stack) ≡ own
+  pub under : stack_kinds (drop (length own) stack) ≡ below
+
+pub cut : (stack : List StackEntry) (below own : List Kind) → stack_kinds stack ≡ below ++ own → IsCut stack below own
+cut stack below own e =
+    let deep : length own ≤ length stack = omega
+    (arith, length-stack_kinds stack, ap length e, length-append below own) in
+    let whole : stack_kinds (drop (length own) stack) ++ stack_kinds (take (length own) stack) ≡ below ++ own =
+    sym (stack_kinds-append (take (length own) stack) (drop (length own) stack)) ∙
+    (ap stack_kinds (take-append-drop (length own) stack) ∙ e) in
+    let parts = split_same _ _ below own whole
+    (omega (arith, length-stack_kinds (take (length own) stack), length-take (length own) stack)) in
+    record { deep = deep; top = parts.back; under = parts.front }
+
+-- ---- the test of kinds
+
+pub same_kinds : (ks : List Kind) → are_same_kinds ks ks ≡ true
+same_kinds [] = refl
+same_kinds (k ∷ ks) = grind (arith, (same_kinds ks))
+
+pub on_top : (stack : List StackEntry) (below own : List Kind) → IsCut stack below own → has_on_top own stack ≡ true
+on_top stack below own c = ap (are_same_kinds own) c.top ∙ same_kinds own
+
+same_lengths : (ks ls : List Kind) → are_same_kinds ks ls ≡ true → length ks ≡ length ls
+same_lengths [] ls e = grind arith
+same_lengths (k ∷ ks) ls e = grind (arith, (same_lengths ks))
+
+-- entries of these kinds are there
+pub there : (own : List Kind) (stack : List StackEntry) → has_on_top own stack ≡ true → length own ≤ length stack
+there own stack e = grind (arith, same_lengths, length-stack_kinds, length-take)
+
+-- ---- the kinds of results, and of entries that are moved
+
+kinds-move : (motion : StackMove) (lower upper : List StackEntry) →
+    map kind_of (entries_after_move motion lower upper) ≡ entries_after_move motion (map kind_of lower)
+    (map kind_of upper)
+kinds-move motion lower upper = grind (arith, map-append, kind_of)
+
+-- an instruction that replaces the top entries
+pub kinds-pushed : (stack : List StackEntry) (below own gives : List Kind) (results : List StackEntry) →
+    IsCut stack below own → map kind_of results ≡ gives → stack_kinds (reverse results ++ drop (length own) stack) ≡
+    below ++ gives
+kinds-pushed stack below own gives results c e =
+    grind (arith, stack_kinds-append, map-reverse, kind_of, reverse-reverse)
+
+pub kinds-top_entries : (count : ℕ) (stack : List StackEntry) (own : List Kind) → stack_kinds (take count stack) ≡ own →
+    map kind_of (top_entries count stack) ≡ own
+kinds-top_entries count stack own e = map-reverse kind_of (take count stack) ∙ e
+
+-- a motion
+pub kinds-moved : (motion : StackMove) (stack : List StackEntry) (below lower upper : List Kind) →
+    stack_kinds stack ≡ below ++ (lower ++ upper) → (length lower + length upper ≤ length stack) × (stack_kinds
+    (stack_after_move motion (length lower) (length upper) stack) ≡ below ++ entries_after_move motion lower upper)
+kinds-moved motion stack below lower upper e =
+    let first = cut stack (below ++ lower) upper (e ∙ sym (append_assoc below lower upper)) in
+    let second = cut (drop (length upper) stack) below lower first.under in
+    let low = top_entries (length lower) (drop (length upper) stack) in
+    let up = top_entries (length upper) stack in
+    let moved : map kind_of (entries_after_move motion low up) ≡ entries_after_move motion lower upper =
+    grind (arith, kinds-move, kinds-top_entries, first, second) in (
+      omega (arith, first.deep, second.deep, length-drop (length upper) stack),
+      kinds-pushed (drop (length upper) stack) below lower (entries_after_move motion lower upper)
+          (entries_after_move motion low up) second moved,
+    )
 
 -- ---- what holds of each entry
 
@@ -49,40 +146,22 @@ All-stack_after_move P motion lower upper stack all =
     (All-reverse P (take lower (drop upper stack)) (All-take P lower (drop upper stack) under))
     (All-reverse P (take upper stack) (All-take P upper stack all)))) (All-drop P lower (drop upper stack) under)
 
-All-pushed : {E : Type 0} (P : E → Type 0) (count : ℕ) (results stack : List E) → All P results → All P stack →
-    All P (reverse results ++ drop count stack)
-All-pushed P count results stack new old =
-    All-append P (reverse results) (drop count stack) (All-reverse P results new) (All-drop P count stack old)
-
 -- Each entry is a result or an entry of the stack before.
 pub All-stack_after : {E : Type 0} (P : E → Type 0) (op : Op) (results stack : List E) → All P results → All P stack →
     All P (stack_after op results stack)
 All-stack_after P (Move motion lower upper) results stack new old = All-stack_after_move P motion lower upper stack old
-All-stack_after P (Const k) results stack new old = All-pushed P 0 results stack new old
-All-stack_after P (Elementwise e) results stack new old =
-    All-pushed P (operand_count (Elementwise e)) results stack new old
-All-stack_after P (Segmented e) results stack new old = All-pushed P (operand_count (Segmented e)) results stack new old
-All-stack_after P If results stack new old = All-pushed P 1 results stack new old
-All-stack_after P Call results stack new old = All-pushed P 0 results stack new old
-All-stack_after P Return results stack new old = All-pushed P 0 results stack new old
+All-stack_after P op results stack new old =
+    All-append P (reverse results) (drop (operand_count op) stack) (All-reverse P results new)
+    (All-drop P (operand_count op) stack old)
 
 -- ---- how many entries there are
-
-length-pushed : {E : Type 0} (count : ℕ) (results stack : List E) →
-    length (reverse results ++ drop count stack) ≡ (length stack - count) + length results
-length-pushed count results stack = grind (arith, length-append, length-reverse, length-drop)
 
 -- with as many results as there are kinds of them
 pub length-stack_after : {E : Type 0} (op : Op) (results stack : List E) → length results ≡ length (result_kinds op) →
     IsDeep op (length stack) → length (stack_after op results stack) ≡ depth_after op (length stack)
 length-stack_after (Move motion lower upper) results stack h deep =
     grind (arith, length-drop, length-take, length-append, length-reverse)
-length-stack_after (Const k) results stack h deep = length-pushed 0 results stack ∙ ap (λ n. (length stack - 0) + n) h
-length-stack_after (Elementwise e) results stack h deep = grind (arith, length-pushed)
-length-stack_after (Segmented e) results stack h deep = grind (arith, length-pushed)
-length-stack_after If results stack h deep = length-pushed 1 results stack ∙ ap (λ n. (length stack - 1) + n) h
-length-stack_after Call results stack h deep = length-pushed 0 results stack ∙ ap (λ n. (length stack - 0) + n) h
-length-stack_after Return results stack h deep = length-pushed 0 results stack ∙ ap (λ n. (length stack - 0) + n) h
+length-stack_after op results stack h deep = grind (arith, length-append, length-reverse, length-drop)
 
 -- an instruction that can run finds its entries
 pub deep_of : (verified : TypedProgram) (item : Item) (stack : List StackEntry) → can_run verified item stack ≡ true →
@@ -114,10 +193,6 @@ total_reverse : (xs : List StackEntry) → total_words (reverse xs) ≡ total_wo
 total_reverse [] = refl
 total_reverse (x ∷ xs) = grind (arith, total_words, reverse-cons, total_append, (total_reverse xs))
 
-held_pushed : (count : ℕ) (results stack : List StackEntry) →
-    held_words (reverse results ++ drop count stack) ≤ total_words results + held_words (drop count stack)
-held_pushed count results stack = grind (arith, held_append, total_reverse)
-
 -- the results are held with what was held below the operands
 held_below : (op : Op) (results stack : List StackEntry) → Agree stack →
     held_words (stack_after op results stack) ≤ total_words results + held_words (drop (operand_count op) stack)
@@ -127,12 +202,7 @@ held_below (Move motion lower upper) results stack agree =
       held_among (stack_after_move motion lower upper stack) stack
           (All-stack_after_move (Has stack) motion lower upper stack (has_itself stack)) agree,
     )
-held_below (Const k) results stack agree = held_pushed 0 results stack
-held_below (Elementwise e) results stack agree = held_pushed (operand_count (Elementwise e)) results stack
-held_below (Segmented e) results stack agree = held_pushed (operand_count (Segmented e)) results stack
-held_below If results stack agree = held_pushed 1 results stack
-held_below Call results stack agree = held_pushed 0 results stack
-held_below Return results stack agree = held_pushed 0 results stack
+held_below op results stack agree = grind (arith, held_append, total_reverse)
 
 -- so they are with what counts as held at the instruction
 pub held_after : (rule : Rule) (item : Item) (results : List StackEntry) (s : State) → Agree s.stack →

@@ -1,9 +1,9 @@
 -- Frames at calls: the line that is next, and the frame after it.
-use Rattle.std.proofs.Common.{◌≡◌, ◌∙◌, ◌+◌, ◌<◌, ℕ, zero, suc, Bool, List, [], ◌∷◌, length, drop, Option, get_or, Some}
-use Rattle.std.proofs.Common.{None, refl, ap, sym, subst, arith}
+use Rattle.std.proofs.Common.{◌≡◌, ◌∙◌, ◌+◌, ◌<◌, ℕ, Bool, List, [], ◌∷◌, length, drop, Option, get_or, Some}
+use Rattle.std.proofs.Common.{None, ap, sym, subst, arith}
 use Rattle.std.specs.Prelude.{slice_get, if◌then◌else◌, MatchOption}
 use Rattle.std.proofs.lemmas.List.{drop_all, drop_more}
-use Rattle.std.proofs.lemmas.Option.{none-some, slice_get_within, get_or_from_slice_get}
+use Rattle.std.proofs.lemmas.Option.{slice_get_cases, slice_get_within, get_or_from_slice_get}
 use Rattle.vcode_base.specs.declared.instr.Instr.TheVariants.{Return}
 use Rattle.vcode_reader.specs.declared.line.CodeItem.{CodeItem}
 use Rattle.vcode_reader.specs.declared.line.CodeItem.TheVariants as code_item
@@ -15,7 +15,7 @@ use Rattle.job_steps.specs.declared.frame.Frame.{Frame}
 use Rattle.job_steps.specs.Frames.{IsStop, StopAt, Stands, remaining, lines_at, lines_from, with_return, first_line}
 use Rattle.job_steps.specs.Frames.{next_line, instruction_of}
 use Rattle.job_steps.specs.States.{Active}
-use Rattle.job_steps.specs.Steps.{next_item, first_item}
+use Rattle.job_steps.specs.Steps.{next_item}
 use Rattle.job_steps.proofs.Passing.{if_chooses, else_passes, remaining_do, remaining_endif, remaining_nothing}
 use Rattle.job_steps.proofs.Passing.{then_assoc}
 
@@ -42,10 +42,7 @@ line_is_if rest ret l end a c b h = grind (arith, line_of)
 -- ---- the place of a frame
 
 front_of : {X : Type 0} (xs : List X) (p : ℕ) (x : X) (ys : List X) → drop p xs ≡ x ∷ ys → slice_get xs p ≡ Some x
-front_of [] zero x ys h = absurd (let k : [] ≡ x ∷ ys = h in cc)
-front_of [] (suc p) x ys h = absurd (let k : [] ≡ x ∷ ys = h in cc)
-front_of (z ∷ xs) zero x ys h = let k : z ∷ xs ≡ x ∷ ys = h in cc
-front_of (z ∷ xs) (suc p) x ys h = front_of xs p x ys h
+front_of xs p x ys h = grind (arith, slice_get_cases, drop_all, drop_more)
 
 pub at_place : {X : Type 0} (xs : List X) (p : ℕ) (x : X) → slice_get xs p ≡ Some x → drop p xs ≡ x ∷ drop (p + 1) xs
 at_place xs p x h =
@@ -75,20 +72,11 @@ pub record StandsIn (functions : List Function) (frame : Frame) (f : Function) :
 module _ (functions gs : List Function) (frame : Frame) (call : Active) (same : gs ≡ functions)
     (s : Stands functions frame call) where
   pub has_function : frame.function < length gs
-  has_function =
-      let at = stands_at functions frame call s in
-      let within = slice_get_within functions frame.function at.function at.found in
-      omega (arith, within, ap length same)
+  has_function = let at = stands_at functions frame call s in grind (arith, slice_get_within)
 
   pub stands_in : (g : Function) → g ≡ get_or gs frame.function g → StandsIn functions frame g
   stands_in g is =
-      let at = stands_at functions frame call s in
-      let is_it : at.function ≡ g = sym (get_or_from_slice_get functions frame.function at.function g at.found) ∙
-      (ap (λ fs. get_or fs frame.function g) (sym same) ∙ sym is) in
-      let found : slice_get functions frame.function ≡ Some g = at.found ∙ ap (λ f. Some f) is_it in
-      let there : slice_get (lines_of g) frame.place ≡ Some at.line = subst
-      (λ f. slice_get (lines_of f) frame.place ≡ Some at.line) is_it at.there in
-      record { found = found; within = slice_get_within (lines_of g) frame.place at.line there }
+      let at = stands_at functions frame call s in grind (arith, get_or_from_slice_get, slice_get_within)
 
 -- the line at the place of a frame
 pub line_at : (functions : List Function) (frame : Frame) (call : Active) (g : Function) (x : CodeLine) →
@@ -106,11 +94,8 @@ line_found functions frame call s stop = grind (arith, stands_at, line_at)
 abbrev pub remaining_from : Function → ℕ → Body
 remaining_from f p = remaining (drop p (lines_of f))
 
-item_by : (rest : Body) (ret : ℕ) → first_item rest ret ≡ instruction_of (first_line rest ret)
-item_by rest ret = grind arith
-
 pub next_item_is : (call : Active) → next_item call ≡ instruction_of (next_line call)
-next_item_is call = item_by call.rest call.ret
+next_item_is call = grind arith
 
 -- ---- the frame after an instruction
 
@@ -194,10 +179,7 @@ GoesTo f p next =
     (p < next) × (p < length (lines_of f)) × (remaining (drop next (lines_of f)) ≡ remaining (drop p (lines_of f)))
 
 past_end : {X : Type 0} (xs : List X) (p : ℕ) → slice_get xs p ≡ None → drop p xs ≡ []
-past_end [] zero e = refl
-past_end [] (suc p) e = refl
-past_end (x ∷ xs) zero e = absurd (none-some x (sym e))
-past_end (x ∷ xs) (suc p) e = past_end xs p e
+past_end xs p e = grind (arith, slice_get_cases, drop_all)
 
 pub stop_past_end : (f : Function) (p : ℕ) → None ≡ slice_get (lines_of f) p → StopAt (drop p (lines_of f))
 stop_past_end f p e = subst StopAt (sym (past_end (lines_of f) p (sym e))) tt
@@ -223,3 +205,6 @@ module _ (f : Function) (p : ℕ) (x : CodeLine) (here : Some x ≡ slice_get (l
 
   pub endif_here : x.item ≡ code_item.Endif → GoesTo f p (p + 1)
   endif_here h = grind (arith, line_of, here_is, within_lines, remaining_endif)
+
+-- what `passed` needs
+pub ruleset of_passed = (stop_here, endif_here, stop_past_end, within_lines)

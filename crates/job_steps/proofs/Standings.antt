@@ -1,10 +1,10 @@
 -- Lists of jobs in which one job has another standing.
 use Rattle.std.proofs.Common.{◌≡◌, ℕ, zero, suc, ◌+◌, ◌<◌, ◌≤◌, Bool, true, false, ◌&&◌, List, [], ◌∷◌, length, map}
-use Rattle.std.proofs.Common.{set, slice_get, All, Option, Some, None, refl, sym, ◌∙◌, ap, subst, arith, length-set}
-use Rattle.std.proofs.Common.{cond}
+use Rattle.std.proofs.Common.{option_map, set, slice_get, All, Option, Some, None, refl, sym, ◌∙◌, ap, subst, arith}
+use Rattle.std.proofs.Common.{length-set}
 use Rattle.std.proofs.lemmas.Bool.{and_parts, leb-true, leb-false, false≢true}
 use Rattle.std.proofs.lemmas.List.Elements.{All-nil, All-cons, All-head, All-tail}
-use Rattle.std.proofs.lemmas.Option.{none-some, same_Some, slice_get_within, get_or_from_slice_get}
+use Rattle.std.proofs.lemmas.Option.{none-some, same_Some, slice_get-map, slice_get_within, get_or_from_slice_get}
 use Rattle.vcode_base.specs.declared.limits.TheConstants.{MOST_PASSES}
 use Rattle.job_steps.specs.EventLaws.{HasRoom}
 use Rattle.job_steps.specs.Standings.{Standing, Waiting, Queue, of_job, with_standing, AreFew, first_standings}
@@ -61,28 +61,19 @@ beside tasks standings same job task e = grind (arith, none-some, beside_at)
 
 pub first_waits : (tasks : List Task) (job : ℕ) (standing : Standing) →
     of_job job (first_standings tasks) ≡ Some standing → standing ≡ Waiting
-first_waits tasks zero standing e = absurd (none-some standing e)
-first_waits tasks (suc i) standing e = first_at tasks i standing e
-  where
-    first_at : (tasks : List Task) (i : ℕ) (standing : Standing) →
-        slice_get (map (λ (task : Task). Waiting) tasks) i ≡ Some standing → standing ≡ Waiting
-    first_at [] i standing e = absurd (none-some standing e)
-    first_at (t ∷ tasks) zero standing e = sym (same_Some Waiting standing e)
-    first_at (t ∷ tasks) (suc i) standing e = first_at tasks i standing e
+first_waits tasks job standing e = grind (arith, none-some, slice_get-map)
 
 -- the standing that was changed to this one
 pub of_mapped : (change : Standing → Standing) (standings : List Standing) (job : ℕ) (new : Standing) →
     of_job job (map change standings) ≡ Some new → (old : Standing) × (of_job job standings ≡ Some old) ×
     (change old ≡ new)
 of_mapped change standings zero new e = absurd (none-some new e)
-of_mapped change standings (suc i) new e = mapped_at change standings i new e
+of_mapped change standings (suc i) new e = mapped_in _ (sym (slice_get-map change standings i) ∙ e)
   where
-    mapped_at : (change : Standing → Standing) (standings : List Standing) (i : ℕ) (new : Standing) →
-        slice_get (map change standings) i ≡ Some new →
-        (old : Standing) × (slice_get standings i ≡ Some old) × (change old ≡ new)
-    mapped_at change [] i new e = absurd (none-some new e)
-    mapped_at change (s ∷ standings) zero new e = (s, refl, same_Some (change s) new e)
-    mapped_at change (s ∷ standings) (suc i) new e = mapped_at change standings i new e
+    mapped_in : (o : Option Standing) → option_map change o ≡ Some new →
+        (old : Standing) × (o ≡ Some old) × (change old ≡ new)
+    mapped_in None h = absurd (none-some new h)
+    mapped_in (Some old) h = (old, refl, same_Some (change old) new h)
 
 -- ---- sums
 
@@ -136,62 +127,52 @@ pub record Found (first : ℕ) (fits : Task → Bool) (tasks : List Task) (stand
   pub few : AreFew passes → AreFew (passes_before place standings passes)
   pub before : PassableBefore fits tasks standings passes place
 
-next_here : (first : ℕ) (fits : Task → Bool) (t : Task) (tasks : List Task) (s : Standing) (standings : List Standing)
-    (count : ℕ) (passes : List ℕ) (job : ℕ) → (is_waiting s && fits t) ≡ true → first ≡ job →
-    Found first fits (t ∷ tasks) (s ∷ standings) (count ∷ passes) job
-next_here first fits t tasks s standings count passes job b e =
-    let parts = and_parts (is_waiting s) (fits t) b in
-    record {
-      place = zero;
-      task = t;
-      job_is = omega (arith, e);
-      task_is = refl;
-      waits = ap (λ (k : Standing). Some k) (waiting_is s parts.0);
-      fits_is = parts.1;
-      few = λ all. all;
-      before = λ i task less t w. absurd (omega (arith, less));
-    }
+module _ (first : ℕ) (fits : Task → Bool) (t : Task) (tasks : List Task) (s : Standing) (standings : List Standing)
+    (count : ℕ) (passes : List ℕ) (job : ℕ) where
+  next_here : (is_waiting s && fits t) ≡ true → first ≡ job →
+      Found first fits (t ∷ tasks) (s ∷ standings) (count ∷ passes) job
+  next_here b e =
+      let parts = and_parts (is_waiting s) (fits t) b in
+      record {
+        place = zero;
+        task = t;
+        job_is = omega (arith, e);
+        task_is = refl;
+        waits = ap (λ (k : Standing). Some k) (waiting_is s parts.0);
+        fits_is = parts.1;
+        few = λ all. all;
+        before = λ i task less t w. absurd (omega (arith, less));
+      }
 
--- one job more, which may be passed by
-passable_more : (fits : Task → Bool) (t : Task) (tasks : List Task) (s : Standing) (standings : List Standing)
-    (count : ℕ) (passes : List ℕ) (place : ℕ) → (is_waiting s && fits t) ≡ false → is_passed_enough s count ≡ false →
-    PassableBefore fits tasks standings passes place → PassableBefore fits (t ∷ tasks) (s ∷ standings) (count ∷ passes)
-    (suc place)
-passable_more fits t tasks s standings count passes place b c before zero task less t_is w = grind arith
-passable_more fits t tasks s standings count passes place b c before (suc i) task less t_is w =
-    before i task (omega (arith, less)) t_is w
+  -- one job more, which may be passed by
+  passable_more : (place : ℕ) → (is_waiting s && fits t) ≡ false → is_passed_enough s count ≡ false →
+      PassableBefore fits tasks standings passes place →
+      PassableBefore fits (t ∷ tasks) (s ∷ standings) (count ∷ passes) (suc place)
+  passable_more place b c before zero task less t_is w = grind arith
+  passable_more place b c before (suc i) task less t_is w = before i task (omega (arith, less)) t_is w
 
-next_behind : (first : ℕ) (fits : Task → Bool) (t : Task) (tasks : List Task) (s : Standing) (standings : List Standing)
-    (count : ℕ) (passes : List ℕ) (job : ℕ) → (is_waiting s && fits t) ≡ false → is_passed_enough s count ≡ false →
-    Found (suc first) fits tasks standings passes job → Found first fits (t ∷ tasks) (s ∷ standings) (count ∷ passes)
-    job
-next_behind first fits t tasks s standings count passes job b c n = record {
-  place = suc n.place;
-  task = n.task;
-  job_is = omega (arith, n.job_is);
-  task_is = n.task_is;
-  waits = n.waits;
-  fits_is = n.fits_is;
-  few = λ all. All-cons (λ (k : ℕ). k ≤ MOST_PASSES) (passed_once_more s count) (passes_before n.place standings passes)
-      (few_more s count c (All-head (λ (k : ℕ). k ≤ MOST_PASSES) count passes all))
-      (n.few (All-tail (λ (k : ℕ). k ≤ MOST_PASSES) count passes all));
-  before = passable_more fits t tasks s standings count passes n.place b c n.before;
-}
-
-next_at : (first : ℕ) (fits : Task → Bool) (t : Task) (tasks : List Task) (s : Standing) (standings : List Standing)
-    (count : ℕ) (passes : List ℕ) (job : ℕ) (b c : Bool) → (is_waiting s && fits t) ≡ b → is_passed_enough s count ≡ c →
-    (o : Option ℕ) → (o ≡ Some job → Found (suc first) fits tasks standings passes job) →
-    cond b (Some first) (cond c None o) ≡ Some job → Found first fits (t ∷ tasks) (s ∷ standings) (count ∷ passes) job
-next_at first fits t tasks s standings count passes job b c b_is c_is o rest e =
-    grind (arith, next_here, same_Some, none-some, next_behind)
+  next_behind : (is_waiting s && fits t) ≡ false → is_passed_enough s count ≡ false →
+      Found (suc first) fits tasks standings passes job →
+      Found first fits (t ∷ tasks) (s ∷ standings) (count ∷ passes) job
+  next_behind b c n = record {
+    place = suc n.place;
+    task = n.task;
+    job_is = omega (arith, n.job_is);
+    task_is = n.task_is;
+    waits = n.waits;
+    fits_is = n.fits_is;
+    few = λ all. All-cons (λ (k : ℕ). k ≤ MOST_PASSES) (passed_once_more s count)
+        (passes_before n.place standings passes)
+        (few_more s count c (All-head (λ (k : ℕ). k ≤ MOST_PASSES) count passes all))
+        (n.few (All-tail (λ (k : ℕ). k ≤ MOST_PASSES) count passes all));
+    before = passable_more n.place b c n.before;
+  }
 
 is_next : (first : ℕ) (fits : Task → Bool) (tasks : List Task) (standings : List Standing) (passes : List ℕ) (job : ℕ) →
     admission_from first fits tasks standings passes ≡ Some job → Found first fits tasks standings passes job
-is_next first fits [] standings passes job e = absurd (none-some job e)
-is_next first fits (t ∷ tasks) [] passes job e = absurd (none-some job e)
-is_next first fits (t ∷ tasks) (s ∷ standings) [] job e = absurd (none-some job e)
 is_next first fits (t ∷ tasks) (s ∷ standings) (count ∷ passes) job e =
-    grind (arith, next_at, (is_next (suc first) fits tasks standings passes job))
+    grind (arith, next_here, same_Some, none-some, next_behind, (is_next (suc first) fits tasks standings passes job))
+is_next first fits tasks standings passes job e = absurd (none-some job e)
 
 pub admitted_next : (region : ℕ) (tasks : List Task) (queue : Queue) (job : ℕ) →
     admission region tasks queue ≡ Some job → Found 1 (has_room region (granted_words tasks queue.standings)) tasks
@@ -204,13 +185,9 @@ pub admitted_has_room : (region : ℕ) (tasks : List Task) (queue : Queue) (job 
 admitted_has_room region tasks queue job e =
     let n = admitted_next region tasks queue job e in
     let job_is : suc n.place ≡ job = omega (arith, n.job_is) in
+    let room = leb-true (granted_words tasks queue.standings + n.task.limits.words) region n.fits_is in
     subst (HasRoom region tasks queue.standings) job_is
-    (record {
-      task = n.task;
-      task_is = n.task_is;
-      waits = n.waits;
-      room = leb-true (granted_words tasks queue.standings + n.task.limits.words) region n.fits_is;
-    })
+    (record { task = n.task; task_is = n.task_is; waits = n.waits; room = room })
 
 -- a job that is admitted has room
 pub admitted_room : (region : ℕ) (tasks : List Task) (queue : Queue) (job : ℕ) →
@@ -218,8 +195,7 @@ pub admitted_room : (region : ℕ) (tasks : List Task) (queue : Queue) (job : �
     granted_words tasks queue.standings + task.limits.words ≤ region
 admitted_room region tasks queue job e task t =
     let h = admitted_has_room region tasks queue job e in
-    subst (λ (k : Task). granted_words tasks queue.standings + k.limits.words ≤ region)
-    (same_Some h.task task (sym h.task_is ∙ t)) h.room
+    rw (same_Some h.task task (sym h.task_is ∙ t)) at h.room
 
 -- the passes stay few
 pub admitted_few : (region : ℕ) (tasks : List Task) (queue : Queue) (place : ℕ) →
@@ -227,8 +203,7 @@ pub admitted_few : (region : ℕ) (tasks : List Task) (queue : Queue) (place : �
     AreFew (passes_before place queue.standings queue.passes)
 admitted_few region tasks queue place e all =
     let n = admitted_next region tasks queue (suc place) e in
-    let place_is : n.place ≡ place = omega (arith, n.job_is) in
-    subst (λ (k : ℕ). AreFew (passes_before k queue.standings queue.passes)) place_is (n.few all)
+    let place_is : n.place ≡ place = omega (arith, n.job_is) in rw place_is at (n.few all)
 
 -- the job that is found is admitted
 pub admits : (region : ℕ) (tasks : List Task) (queue : Queue) (o : Option ℕ) →

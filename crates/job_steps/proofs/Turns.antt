@@ -1,6 +1,7 @@
--- Lists that are kept backwards.
+-- Lists that are kept backwards, and a list whose first element moves after the others.
 use Rattle.std.proofs.Common.{◌≡◌, ℕ, ◌+◌, ◌-◌, ◌<◌, ◌≤◌, List, [], ◌∷◌, ◌++◌, length, take, drop, refl, sym, ◌∙◌, ap}
 use Rattle.std.proofs.Common.{suc, arith, append_assoc, drop-drop, length-drop, length-take-le, slice_set}
+use Rattle.std.proofs.Common.{slice_index_or}
 use Rattle.std.specs.Prelude.{reverse}
 use Rattle.std.proofs.lemmas.List.{reverse-append, reverse-reverse, length-reverse, take-append-drop, take_at, drop_at}
 use lib.Seq.{set_split}
@@ -108,7 +109,7 @@ module _ {E : Type 0} (xs : List E) (below lower : ℕ) (there : below + lower �
       ap (λ ys. ys ++ front) (sym (take-append-drop lower above)) ∙ append_assoc front (drop lower above) front
 
   same_below : take below (xs ++ front) ≡ take below xs
-  same_below = ap (take below) copied_after ∙ take_at (take below xs) (above ++ front) below long_below
+  same_below = grind (arith, copied_after, take_at, long_below)
 
   left_above : drop (below + lower) (xs ++ front) ≡ drop lower above ++ front
   left_above =
@@ -136,16 +137,18 @@ module _ {E : Type 0} (old : PileState E) (xs ys : List E) (room : ℕ) (is : pi
       pile ys room ≡ record old { entries = F old.entries }
   with_entries F h = grind arith
 
-  pub lowered : (count n : ℕ) → count ≤ length old.entries → n ≡ length xs - count → ys ≡ take n xs →
+  pub lowered : (count len : ℕ) → count ≤ length old.entries → len ≡ length xs → ys ≡ take (len - count) xs →
       pile ys room ≡ record old { entries = drop count old.entries }
-  lowered count n there long h = grind (arith, with_entries, reverse_front, long_entries)
+  lowered count len there long h = grind (arith, with_entries, reverse_front, long_entries)
 
-  pub topped : (x : E) (n : ℕ) → 0 < length old.entries → n ≡ length xs - 1 → ys ≡ slice_set xs n x →
+  pub topped : (x : E) (len : ℕ) → 0 < length old.entries → len ≡ length xs → ys ≡ slice_set xs (len - 1) x →
       pile ys room ≡ record old { entries = x ∷ drop 1 old.entries }
-  topped x n there at h = grind (arith, with_entries, reverse_set, long_entries)
+  topped x len there long h = grind (arith, with_entries, reverse_set, long_entries)
 
-  module _ (lower upper place : ℕ) (there : lower + upper ≤ length old.entries)
-      (at : place ≡ length xs - (lower + upper)) where
+  module _ (lower upper len : ℕ) (there : lower + upper ≤ length old.entries) (long : len ≡ length xs) where
+    abbrev place : ℕ
+    place = len - (lower + upper)
+
     enough : lower + upper ≤ length xs
     enough = omega (arith, long_entries)
 
@@ -165,4 +168,41 @@ module _ {E : Type 0} (old : PileState E) (xs ys : List E) (room : ℕ) (is : pi
         pile ys room ≡ record old { entries = stack_after_move Pop lower upper old.entries }
     shifted_pop h =
         shifted_by Pop (ap reverse (h ∙ (ap (λ zs. take place xs ++ zs) (sym (drop-drop lower place xs)) ∙ ap
-        (λ n. take n xs ++ drop lower (drop n xs)) at)) ∙ removed xs lower upper enough)
+        (λ n. take (n - (lower + upper)) xs ++ drop lower (drop (n - (lower + upper)) xs)) long)) ∙
+        removed xs lower upper enough)
+
+-- the first element after the n that follow it
+abbrev shifted : {T : Type 0} → ℕ → List T → List T
+shifted n xs = take n (drop 1 xs) ++ drop n xs
+
+next : {T : Type 0} (x : T) (rest : List T) (n : ℕ) (z : T) → n < length rest →
+    slice_index_or (take n rest ++ drop n (x ∷ rest)) (suc n) z ≡ slice_index_or rest n z
+next x [] n z h = absurd (omega arith)
+next x (y ∷ rest) n z h = grind (arith, (next y rest))
+
+set_next : {T : Type 0} (x : T) (rest : List T) (n : ℕ) (z : T) → n < length rest →
+    slice_set (take n rest ++ drop n (x ∷ rest)) n (slice_index_or rest n z) ≡ take (suc n) rest ++ drop (suc n)
+    (x ∷ rest)
+set_next x [] n z h = absurd (omega arith)
+set_next x (y ∷ rest) n z h = grind (arith, (set_next y rest))
+
+set_last : {T : Type 0} (first x : T) (rest : List T) → slice_set
+    (take (length rest) rest ++ drop (length rest) (x ∷ rest)) (length rest) first ≡ rest ++ first ∷ []
+set_last first x [] = refl
+set_last first x (y ∷ rest) = ap (λ l. y ∷ l) (set_last first y rest)
+
+-- one more
+pub moved_one : {T : Type 0} (xs ys : List T) (n : ℕ) (z : T) → n + 1 < length xs → ys ≡ shifted n xs →
+    z ≡ slice_index_or ys (n + 1) z → slice_set ys n z ≡ shifted (n + 1) xs
+moved_one xs ys n z h is read = grind (arith, next, set_next)
+
+-- and then the first at the end
+pub moved_all : {T : Type 0} (xs ys : List T) (n last : ℕ) (first z : T) → 0 < length xs → last ≡ length xs - 1 →
+    n ≡ last → ys ≡ shifted n xs → first ≡ slice_index_or xs 0 z → slice_set ys last first ≡ drop 1 xs ++ take 1 xs
+moved_all [] ys n last first z h last_is n_is is read = absurd (omega arith)
+moved_all (x ∷ rest) ys n last first z h last_is n_is is read =
+    let at : last ≡ length rest = omega arith in
+    ap (λ l. slice_set l last first) (is ∙ ap (λ m. take m rest ++ drop m (x ∷ rest)) (n_is ∙ at)) ∙
+    (ap (λ m. slice_set (take (length rest) rest ++ drop (length rest) (x ∷ rest)) m first) at ∙
+    (ap (λ f. slice_set (take (length rest) rest ++ drop (length rest) (x ∷ rest)) (length rest) f) read ∙ set_last x x
+    rest))

@@ -1,40 +1,112 @@
--- The results of an instruction are of the kinds that its results have.
-use Rattle.std.proofs.Common.{rules, ◌≡◌, ℕ, ℤ, pos, ◌+◌, ◌≤◌, Bool, false, cond, ltb, List, [], ◌∷◌, map, take, drop}
-use Rattle.std.proofs.Common.{Option, Some, None, refl, arith}
-use Rattle.std.specs.Prelude.{All, ◌≤ℤ◌, ◌||◌, zip, filter, flat_map, count_by, slice_set, slice_get, unsigned_abs}
-use Rattle.std.specs.Prelude.{int_lt, replicate}
-use Rattle.std.specs.List.{list_any}
+-- The results of an instruction are of the kinds that its results have. What is made of flags is of flags.
+use Rattle.std.proofs.Common.{rules, arith, ℕ, ℤ, pos, ◌+◌, Bool, cond, List, [], ◌∷◌, length, take, drop, refl, inl}
+use Rattle.std.proofs.Common.{suc, zero, ◌≡◌, ◌≤◌, false, ltb, map, Option, Some, None}
+use Rattle.std.specs.Prelude.{All, zip, fold, flat_map, slice_index_or, ◌≤ℤ◌, ◌||◌, filter, count_by, slice_set}
+use Rattle.std.specs.Prelude.{slice_get, unsigned_abs, int_lt, replicate}
+use Rattle.std.specs.List.{enumerate_from, list_any}
+use Rattle.std.proofs.lemmas.List.Elements.{All-nil, All-cons, All-head, All-tail, All-append, All-map, All-take}
+use Rattle.std.proofs.lemmas.List.Elements.{All-drop, All-replicate, All-weaker, All-set, All-filter}
+use Rattle.vcode_base.specs.Elements.{flag, logic, fold_step, identity, is_set, fold_of}
+use Rattle.vcode_base.specs.Kinds.{IsFlag, HasKind, HaveKinds, elementwise_operands, elementwise_results}
+use Rattle.vcode_base.specs.Kinds.{segmented_operands, segmented_results, source_kinds, result_kinds, kind_of}
+use Rattle.vcode_base.specs.Segments.{pieces_of, arrival, scatter_of, permutation_of, sizes, total, segments, element}
+use Rattle.vcode_base.specs.Segments.{folds_before}
+use Rattle.vcode_base.specs.declared.kind.Scalar.TheVariants.{Bool as Flags, Int as Numbers}
+use Rattle.vcode_base.specs.declared.op.Fold.TheVariants.{Logic as LogicFold}
+use Rattle.vcode_base.specs.declared.op.Logic.{Logic as LogicOp}
 use Rattle.std.proofs.lemmas.Bool.Decides.{nat_tests}
 use Rattle.std.proofs.lemmas.List.{length-take}
-use Rattle.std.proofs.lemmas.List.Elements.{All-nil, All-cons, All-map, All-set, All-filter, All-replicate, All-weaker}
-use Rattle.std.proofs.lemmas.List.Elements.{All-take}
 use Rattle.std.proofs.lemmas.List.Sums.{count_by-le-length, sum_by-cons}
 use Rattle.vcode_base.specs.declared.fault.DataFault.TheVariants.{BadLength}
 use Rattle.vcode_base.specs.declared.kind.Kind.{Kind}
-use Rattle.vcode_base.specs.declared.kind.Kind.TheVariants as kind
-use Rattle.vcode_base.specs.declared.kind.Scalar.TheVariants.{Int as Numbers, Bool as Flags}
-use Rattle.vcode_base.specs.declared.op.Logic.{Logic as LogicOp}
-use Rattle.vcode_base.specs.declared.op.Fold.TheVariants.{Sum, Product, Max, Min, Logic as LogicFold}
 use Rattle.vcode_base.specs.declared.op.Op.{Op}
-use Rattle.vcode_base.specs.declared.op.Op.TheVariants.{Elementwise, Segmented, Const, If, Move, Call, Return}
+use Rattle.vcode_base.specs.declared.op.Op.TheVariants.{Elementwise, Segmented, Const}
 use Rattle.vcode_base.specs.declared.op.Elementwise.{Elementwise as ElementwiseOp}
-use Rattle.vcode_base.specs.declared.op.Elementwise.TheVariants.{Arith, Compare, Logic, Not, Select, IntToBool}
-use Rattle.vcode_base.specs.declared.op.Elementwise.TheVariants.{BoolToInt}
+use Rattle.vcode_base.specs.declared.op.Elementwise.TheVariants.{Compare, Logic, Not, Select, IntToBool}
 use Rattle.vcode_base.specs.declared.op.Segmented.{Segmented as SegmentedOp}
-use Rattle.vcode_base.specs.declared.op.Segmented.TheVariants.{Scan, Reduce, Distribute, Index, Permute, BackPermute}
+use Rattle.vcode_base.specs.declared.op.Segmented.TheVariants.{Scan, Reduce, Distribute, Permute, BackPermute}
 use Rattle.vcode_base.specs.declared.op.Segmented.TheVariants.{DefaultPermute, Extract, Replace, Pack, MakeSegdes}
-use Rattle.vcode_base.specs.declared.op.Segmented.TheVariants.{Lengths}
-use Rattle.vcode_base.specs.Elements.{is_set, logic, fold_of}
-use Rattle.vcode_base.specs.Kinds.{IsFlag, HasKind, HaveKinds, elementwise_operands, elementwise_results}
-use Rattle.vcode_base.specs.Kinds.{segmented_operands, segmented_results, source_kinds, result_kinds, kind_of}
 use Rattle.vcode_base.specs.Meaning.{operand, first_fault, elementwise_result, segmented_result, segmented_fault}
 use Rattle.vcode_base.specs.Meaning.{segmented_second, value_fault, result_of, second_result_of, two_by_two}
 use Rattle.vcode_base.specs.Meaning.{selection_of, flagged_elements}
-use Rattle.vcode_base.specs.Segments.{sizes, total, segments, element, scatter_of, permutation_of, folds_before}
 use Rattle.job_steps.specs.Reached.{HasItsKind}
 use Rattle.job_steps.specs.Steps.{vectors_of}
-use Rattle.job_steps.proofs.Flags.{All-always, All-zip, All-flat_map, All-cut, at_index, zero_flag, is_flag}
-use Rattle.job_steps.proofs.Flags.{chosen_flag, logic_flag, moved_flags, permuted_flags, folded, first_flag}
+use Rattle.vcode_base.specs.declared.kind.Kind.TheVariants as kind
+
+-- ---- lists of any elements
+
+pub All-always : {A : Type 0} (P : A → Type 0) → ((x : A) → P x) → (xs : List A) → All P xs
+All-always P always [] = All-nil P
+All-always P always (x ∷ xs) = All-cons P x xs (always x) (All-always P always xs)
+
+pub All-zip : {A B : Type 0} (P : A → Type 0) (Q : B → Type 0) (xs : List A) (ys : List B) → All P xs → All Q ys →
+    All (λ (p : A × B). P p.0 × Q p.1) (zip xs ys)
+All-zip {A} {B} P Q (x ∷ xs) (y ∷ ys) p q =
+    grind (arith, All-cons, All-head, All-tail, (All-zip P Q xs ys (All-tail P x xs p) (All-tail Q y ys q)))
+All-zip {A} {B} P Q xs ys p q = All-nil (λ (p : A × B). P p.0 × Q p.1)
+
+pub All-flat_map : {A B : Type 0} (P : B → Type 0) (f : A → List B) (xs : List A) → All (λ x. All P (f x)) xs →
+    All P (flat_map f xs)
+All-flat_map P f [] all = All-nil P
+All-flat_map P f (x ∷ xs) all =
+    search (rules, All-append, All-head, All-tail, (All-flat_map P f xs (All-tail (λ x. All P (f x)) x xs all)))
+
+pub All-cut : (P : ℤ → Type 0) (ns : List ℕ) (xs : List ℤ) → All P xs → All (All P) (pieces_of ns xs)
+All-cut P [] xs all = All-nil (All P)
+All-cut P (n ∷ ns) xs all =
+    All-cons (All P) (take n xs) (pieces_of ns (drop n xs)) (All-take P n xs all)
+    (All-cut P ns (drop n xs) (All-drop P n xs all))
+
+All-enumerate : (P : ℤ → Type 0) (from : ℕ) (xs : List ℤ) → All P xs →
+    All (λ (p : ℕ × ℤ). P p.1) (enumerate_from from xs)
+All-enumerate P from [] all = All-nil (λ (p : ℕ × ℤ). P p.1)
+All-enumerate P from (x ∷ xs) all =
+    grind (arith, All-cons, All-head, All-tail, (All-enumerate P (from + 1) xs (All-tail P x xs all)))
+
+pub at_index : (P : ℤ → Type 0) (xs : List ℤ) (n : ℕ) (d : ℤ) → All P xs → P d → P (slice_index_or xs n d)
+at_index P [] n d all here = here
+at_index P (x ∷ xs) zero d all here = All-head P x xs all
+at_index P (x ∷ xs) (suc n) d all here = at_index P xs n d (All-tail P x xs all) here
+
+-- ---- flags
+
+pub zero_flag : IsFlag (pos 0)
+zero_flag = inl refl
+
+pub is_flag : (b : Bool) → IsFlag (flag b)
+is_flag b = grind (arith, zero_flag)
+
+pub chosen_flag : (b : Bool) (x y : ℤ) → IsFlag x → IsFlag y → IsFlag (cond b x y)
+chosen_flag b x y p q = grind arith
+
+pub logic_flag : (op : LogicOp) (a b : ℤ) → IsFlag a → IsFlag b → IsFlag (logic op a b)
+logic_flag op a b h3 h4 = grind arith
+
+pub folded : (op : LogicOp) (a : ℤ) (xs : List ℤ) → IsFlag a → All IsFlag xs →
+    IsFlag (fold (fold_step (LogicFold op Flags)) a xs)
+folded op a [] p all = p
+folded op a (x ∷ xs) p all =
+    folded op (logic op a x) xs (logic_flag op a x p (All-head IsFlag x xs all)) (All-tail IsFlag x xs all)
+
+pub first_flag : (op : LogicOp) → IsFlag (identity (LogicFold op Flags))
+first_flag op = grind (arith, zero_flag)
+
+arrived : (moves : List (ℤ × ℤ)) (q : ℕ) (d : ℤ) → All (λ (p : ℤ × ℤ). IsFlag p.1) moves → IsFlag d →
+    IsFlag (arrival moves q d)
+arrived [] q d all here = here
+arrived ((i, x) ∷ moves) q d all here = search (rules, All-tail, chosen_flag, All-head, (arrived moves q))
+
+pub moved_flags : (xs is there : List ℤ) → All IsFlag xs → All IsFlag there → All IsFlag (scatter_of xs is there)
+moved_flags xs is there p q =
+    let moves : All (λ (m : ℤ × ℤ). IsFlag m.1) (zip is xs) = All-weaker (λ (m : ℤ × ℤ). Unit {0} × IsFlag m.1)
+    (λ (m : ℤ × ℤ). IsFlag m.1) (λ m h. h.1) (zip is xs)
+    (All-zip (λ i. Unit {0}) IsFlag is xs (All-always (λ i. Unit {0}) (λ i. tt) is) p) in
+    All-map IsFlag (λ (e : ℕ × ℤ). arrival (zip is xs) e.0 e.1) (enumerate_from 0 there)
+    (All-weaker (λ (e : ℕ × ℤ). IsFlag e.1) (λ (e : ℕ × ℤ). IsFlag (arrival (zip is xs) e.0 e.1))
+    (λ e h. arrived (zip is xs) e.0 e.1 moves h) (enumerate_from 0 there) (All-enumerate IsFlag 0 there q))
+
+pub permuted_flags : (xs is : List ℤ) → All IsFlag xs → All IsFlag (permutation_of xs is)
+permuted_flags xs is p = moved_flags xs is _ p (All-replicate IsFlag (length xs) (pos 0) zero_flag)
 
 -- an operand is of the kind at its place
 operand_kind : (ks : List Kind) (xs : List (List ℤ)) → HaveKinds ks xs → (i : ℕ) (k : Kind) → slice_get ks i ≡ Some k →
@@ -47,21 +119,32 @@ operand_kind (l ∷ ks) xs h i k e = grind (arith, (operand_kind ks))
 paired_flags : (f : ℤ → ℤ → ℤ) → ((a b : ℤ) → IsFlag (f a b)) → (xs ys : List ℤ) → All IsFlag (two_by_two f xs ys)
 paired_flags f always xs ys = search (rules, All-map, All-always)
 
+-- what is made of two lists side by side, if it is of flags at each place
+map_zip : {A B : Type 0} (P : A → Type 0) (Q : B → Type 0) (f : A × B → ℤ) →
+    ((a : A) (b : B) → P a → Q b → IsFlag (f (a, b))) → (xs : List A) (ys : List B) → All P xs → All Q ys →
+    All IsFlag (map f (zip xs ys))
+map_zip {A} {B} P Q f flags xs ys p q =
+    All-map IsFlag f (zip xs ys) (All-weaker (λ (m : A × B). P m.0 × Q m.1) (λ m. IsFlag (f m))
+    (λ m h. flags m.0 m.1 h.0 h.1) (zip xs ys) (All-zip P Q xs ys p q))
+
+flat_zip : {A B : Type 0} (P : A → Type 0) (Q : B → Type 0) (f : A × B → List ℤ) →
+    ((a : A) (b : B) → P a → Q b → All IsFlag (f (a, b))) → (xs : List A) (ys : List B) → All P xs → All Q ys →
+    All IsFlag (flat_map f (zip xs ys))
+flat_zip {A} {B} P Q f flags xs ys p q =
+    All-flat_map IsFlag f (zip xs ys) (All-weaker (λ (m : A × B). P m.0 × Q m.1) (λ m. All IsFlag (f m))
+    (λ m h. flags m.0 m.1 h.0 h.1) (zip xs ys) (All-zip P Q xs ys p q))
+
+-- whatever the elements
+any : {A : Type 0} (xs : List A) → All (λ (x : A). Unit {0}) xs
+any {A} xs = All-always (λ (x : A). Unit {0}) (λ x. tt) xs
+
 logic_flags : (op : LogicOp) (xs ys : List ℤ) → All IsFlag xs → All IsFlag ys → All IsFlag (two_by_two (logic op) xs ys)
-logic_flags op xs ys p q =
-    All-map IsFlag (λ (m : ℤ × ℤ). logic op m.0 m.1) (zip xs ys)
-    (All-weaker (λ (m : ℤ × ℤ). IsFlag m.0 × IsFlag m.1) (λ (m : ℤ × ℤ). IsFlag (logic op m.0 m.1))
-    (λ m h. logic_flag op m.0 m.1 h.0 h.1) (zip xs ys) (All-zip IsFlag IsFlag xs ys p q))
+logic_flags op xs ys p q = map_zip IsFlag IsFlag (λ m. logic op m.0 m.1) (λ a b. logic_flag op a b) xs ys p q
 
 selected_flags : (bs xs ys : List ℤ) → All IsFlag xs → All IsFlag ys → All IsFlag (selection_of bs xs ys)
 selected_flags bs xs ys p q =
-    let pairs = All-zip IsFlag IsFlag xs ys p q in
-    let threes = All-zip (λ (b : ℤ). Unit {0}) (λ (m : ℤ × ℤ). IsFlag m.0 × IsFlag m.1) bs (zip xs ys)
-    (All-always (λ (b : ℤ). Unit {0}) (λ b. tt) bs) pairs in
-    All-map IsFlag (λ (m : ℤ × (ℤ × ℤ)). cond (is_set m.0) m.1.0 m.1.1) (zip bs (zip xs ys))
-    (All-weaker (λ (m : ℤ × (ℤ × ℤ)). Unit {0} × (IsFlag m.1.0 × IsFlag m.1.1))
-    (λ (m : ℤ × (ℤ × ℤ)). IsFlag (cond (is_set m.0) m.1.0 m.1.1))
-    (λ m h. chosen_flag (is_set m.0) m.1.0 m.1.1 h.1.0 h.1.1) (zip bs (zip xs ys)) threes)
+    map_zip (λ b. Unit {0}) (λ (m : ℤ × ℤ). IsFlag m.0 × IsFlag m.1) (λ m. cond (is_set m.0) m.1.0 m.1.1)
+    (λ b m u h. chosen_flag (is_set b) m.0 m.1 h.0 h.1) bs (zip xs ys) (any bs) (All-zip IsFlag IsFlag xs ys p q)
 
 -- a vector of its kind
 one : (k : Kind) (words : List ℤ) → HasKind k words → All HasItsKind (record { kind = k; words = words } ∷ [])
@@ -74,19 +157,15 @@ two k l words others p q = grind arith
 elementwise_kinds : (e : ElementwiseOp) (xs : List (List ℤ)) (others : List (List ℤ)) →
     HaveKinds (elementwise_operands e) xs → All HasItsKind (vectors_of (elementwise_results e)
     (elementwise_result e xs ∷ others))
-elementwise_kinds (Arith op) xs others h = one kind.Int _ tt
 elementwise_kinds (Compare op) xs others h = grind (arith, one, paired_flags, is_flag)
-elementwise_kinds (Logic op Numbers) xs others h = one kind.Int _ tt
 elementwise_kinds (Logic op Flags) xs others h =
     let own = elementwise_operands (Logic op Flags) in
     one kind.Bool _ (logic_flags op (operand xs 0) (operand xs 1) (operand_kind own xs h 0 kind.Bool refl)
     (operand_kind own xs h 1 kind.Bool refl))
-elementwise_kinds (Not Numbers) xs others h = one kind.Int _ tt
 elementwise_kinds (Not Flags) xs others h = search (rules, one, All-map, All-always, is_flag)
-elementwise_kinds (Select Numbers) xs others h = one kind.Int _ tt
 elementwise_kinds (Select Flags) xs others h = grind (arith, one, selected_flags, operand_kind)
 elementwise_kinds IntToBool xs others h = search (rules, one, All-map, All-always, is_flag)
-elementwise_kinds BoolToInt xs others h = one kind.Int _ tt
+elementwise_kinds e xs others h = one kind.Int _ tt
 
 -- ---- instructions over segments
 
@@ -102,72 +181,56 @@ reduce_flags : (op : LogicOp) (s xs : List ℤ) → All IsFlag xs →
     All IsFlag (map (fold_of (LogicFold op Flags)) (segments s xs))
 reduce_flags op s xs p = search (rules, All-map, All-weaker, folded, first_flag, segment_flags)
 
--- of each first part, whatever the second
-firsts : {A B : Type 0} (P : A → Type 0) (xs : List A) (ys : List B) → All P xs → All (λ (m : A × B). P m.0) (zip xs ys)
-firsts {A} {B} P xs ys p =
-    All-weaker (λ (m : A × B). P m.0 × Unit {0}) (λ (m : A × B). P m.0) (λ m h. h.0) (zip xs ys)
-    (All-zip P (λ (y : B). Unit {0}) xs ys p (All-always (λ (y : B). Unit {0}) (λ y. tt) ys))
+distribute_flags : (s xs : List ℤ) → All IsFlag xs →
+    All IsFlag (flat_map (λ (m : ℕ × ℤ). replicate m.0 m.1) (zip (sizes s) xs))
+distribute_flags s xs p =
+    flat_zip (λ n. Unit {0}) IsFlag (λ m. replicate m.0 m.1) (λ n x u h. All-replicate IsFlag n x h) (sizes s) xs
+    (any (sizes s)) p
 
-seconds : {A B : Type 0} (P : B → Type 0) (xs : List A) (ys : List B) → All P ys →
-    All (λ (m : A × B). P m.1) (zip xs ys)
-seconds {A} {B} P xs ys p =
-    All-weaker (λ (m : A × B). Unit {0} × P m.1) (λ (m : A × B). P m.1) (λ m h. h.1) (zip xs ys)
-    (All-zip (λ (x : A). Unit {0}) P xs ys (All-always (λ (x : A). Unit {0}) (λ x. tt) xs) p)
-
-distribute_flags : (ns : List ℕ) (xs : List ℤ) → All IsFlag xs →
-    All IsFlag (flat_map (λ (m : ℕ × ℤ). replicate m.0 m.1) (zip ns xs))
-distribute_flags ns xs p =
-    All-flat_map IsFlag (λ (m : ℕ × ℤ). replicate m.0 m.1) (zip ns xs)
-    (All-weaker (λ (m : ℕ × ℤ). IsFlag m.1) (λ (m : ℕ × ℤ). All IsFlag (replicate m.0 m.1))
-    (λ m h. All-replicate IsFlag m.0 m.1 h) (zip ns xs) (seconds IsFlag ns xs p))
-
-permute_flags : (vs iss : List (List ℤ)) → All (All IsFlag) vs →
-    All IsFlag (flat_map (λ (m : List ℤ × List ℤ). permutation_of m.0 m.1) (zip vs iss))
-permute_flags vs iss p =
-    All-flat_map IsFlag (λ (m : List ℤ × List ℤ). permutation_of m.0 m.1) (zip vs iss)
-    (All-weaker (λ (m : List ℤ × List ℤ). All IsFlag m.0) (λ (m : List ℤ × List ℤ). All IsFlag (permutation_of m.0 m.1))
-    (λ m h. permuted_flags m.0 m.1 h) (zip vs iss) (firsts (All IsFlag) vs iss p))
+permute_flags : (s xs is : List ℤ) → All IsFlag xs →
+    All IsFlag (flat_map (λ (m : List ℤ × List ℤ). permutation_of m.0 m.1) (zip (segments s xs) (segments s is)))
+permute_flags s xs is p =
+    flat_zip (All IsFlag) (λ i. Unit {0}) (λ m. permutation_of m.0 m.1) (λ v i h u. permuted_flags v i h)
+    (segments s xs) (segments s is) (segment_flags s xs p) (any (segments s is))
 
 element_flag : (v : List ℤ) (i : ℤ) → All IsFlag v → IsFlag (element v i)
 element_flag v i p = at_index IsFlag v (unsigned_abs i) (pos 0) p zero_flag
 
-gather_flags : (vs iss : List (List ℤ)) → All (All IsFlag) vs →
-    All IsFlag (flat_map (λ (m : List ℤ × List ℤ). map (element m.0) m.1) (zip vs iss))
-gather_flags vs iss p =
-    All-flat_map IsFlag (λ (m : List ℤ × List ℤ). map (element m.0) m.1) (zip vs iss)
-    (All-weaker (λ (m : List ℤ × List ℤ). All IsFlag m.0) (λ (m : List ℤ × List ℤ). All IsFlag (map (element m.0) m.1))
-    (λ m h. All-map IsFlag (element m.0) m.1 (All-always (λ i. IsFlag (element m.0 i)) (λ i. element_flag m.0 i h) m.1))
-    (zip vs iss) (firsts (All IsFlag) vs iss p))
+gather_flags : (s t xs is : List ℤ) → All IsFlag xs →
+    All IsFlag (flat_map (λ (m : List ℤ × List ℤ). map (element m.0) m.1) (zip (segments s xs) (segments t is)))
+gather_flags s t xs is p =
+    flat_zip (All IsFlag) (λ i. Unit {0}) (λ m. map (element m.0) m.1)
+    (λ v i h u. All-map IsFlag (element v) i (All-always (λ k. IsFlag (element v k)) (λ k. element_flag v k h) i))
+    (segments s xs) (segments t is) (segment_flags s xs p) (any (segments t is))
 
-overlay_flags : (vs iss ds : List (List ℤ)) → All (All IsFlag) vs → All (All IsFlag) ds →
-    All IsFlag (flat_map (λ (m : List ℤ × (List ℤ × List ℤ)). scatter_of m.0 m.1.0 m.1.1) (zip vs (zip iss ds)))
-overlay_flags vs iss ds p q =
-    All-flat_map IsFlag (λ (m : List ℤ × (List ℤ × List ℤ)). scatter_of m.0 m.1.0 m.1.1) (zip vs (zip iss ds))
-    (All-weaker (λ (m : List ℤ × (List ℤ × List ℤ)). All IsFlag m.0 × All IsFlag m.1.1)
-    (λ (m : List ℤ × (List ℤ × List ℤ)). All IsFlag (scatter_of m.0 m.1.0 m.1.1))
-    (λ m h. moved_flags m.0 m.1.0 m.1.1 h.0 h.1) (zip vs (zip iss ds))
-    (All-zip (All IsFlag) (λ (m : List ℤ × List ℤ). All IsFlag m.1) vs (zip iss ds) p (seconds (All IsFlag) iss ds q)))
+overlay_flags : (s t xs is ds : List ℤ) → All IsFlag xs → All IsFlag ds → All IsFlag (flat_map
+    (λ (m : List ℤ × (List ℤ × List ℤ)). scatter_of m.0 m.1.0 m.1.1)
+    (zip (segments s xs) (zip (segments s is) (segments t ds))))
+overlay_flags s t xs is ds p q =
+    flat_zip (All IsFlag) (λ (m : List ℤ × List ℤ). Unit {0} × All IsFlag m.1) (λ m. scatter_of m.0 m.1.0 m.1.1)
+    (λ v m h k. moved_flags v m.0 m.1 h k.1) (segments s xs) (zip (segments s is) (segments t ds))
+    (segment_flags s xs p)
+    (All-zip (λ i. Unit {0}) (All IsFlag) (segments s is) (segments t ds) (any (segments s is)) (segment_flags t ds q))
 
-extract_flags : (vs : List (List ℤ)) (is : List ℤ) → All (All IsFlag) vs →
-    All IsFlag (map (λ (m : List ℤ × ℤ). element m.0 m.1) (zip vs is))
-extract_flags vs is p =
-    All-map IsFlag (λ (m : List ℤ × ℤ). element m.0 m.1) (zip vs is)
-    (All-weaker (λ (m : List ℤ × ℤ). All IsFlag m.0) (λ (m : List ℤ × ℤ). IsFlag (element m.0 m.1))
-    (λ m h. element_flag m.0 m.1 h) (zip vs is) (firsts (All IsFlag) vs is p))
+extract_flags : (s xs is : List ℤ) → All IsFlag xs →
+    All IsFlag (map (λ (m : List ℤ × ℤ). element m.0 m.1) (zip (segments s xs) is))
+extract_flags s xs is p =
+    map_zip (All IsFlag) (λ i. Unit {0}) (λ m. element m.0 m.1) (λ v i h u. element_flag v i h) (segments s xs) is
+    (segment_flags s xs p) (any is)
 
-replace_flags : (vs : List (List ℤ)) (is xs : List ℤ) → All (All IsFlag) vs → All IsFlag xs →
-    All IsFlag (flat_map (λ (m : List ℤ × (ℤ × ℤ)). slice_set m.0 (unsigned_abs m.1.0) m.1.1) (zip vs (zip is xs)))
-replace_flags vs is xs p q =
-    All-flat_map IsFlag (λ (m : List ℤ × (ℤ × ℤ)). slice_set m.0 (unsigned_abs m.1.0) m.1.1) (zip vs (zip is xs))
-    (All-weaker (λ (m : List ℤ × (ℤ × ℤ)). All IsFlag m.0 × IsFlag m.1.1)
-    (λ (m : List ℤ × (ℤ × ℤ)). All IsFlag (slice_set m.0 (unsigned_abs m.1.0) m.1.1))
-    (λ m h. All-set IsFlag m.0 (unsigned_abs m.1.0) m.1.1 h.1 h.0) (zip vs (zip is xs))
-    (All-zip (All IsFlag) (λ (m : ℤ × ℤ). IsFlag m.1) vs (zip is xs) p (seconds IsFlag is xs q)))
+replace_flags : (s xs is ds : List ℤ) → All IsFlag xs → All IsFlag ds → All IsFlag (flat_map
+    (λ (m : List ℤ × (ℤ × ℤ)). slice_set m.0 (unsigned_abs m.1.0) m.1.1) (zip (segments s xs) (zip is ds)))
+replace_flags s xs is ds p q =
+    flat_zip (All IsFlag) (λ (m : ℤ × ℤ). Unit {0} × IsFlag m.1) (λ m. slice_set m.0 (unsigned_abs m.1.0) m.1.1)
+    (λ v m h k. All-set IsFlag v (unsigned_abs m.0) m.1 k.1 h) (segments s xs) (zip is ds) (segment_flags s xs p)
+    (All-zip (λ i. Unit {0}) IsFlag is ds (any is) q)
 
 packed_flags : (xs bs : List ℤ) → All IsFlag xs → All IsFlag (flagged_elements xs bs)
 packed_flags xs bs p =
     All-map IsFlag (λ (m : ℤ × ℤ). m.0) (filter (λ (m : ℤ × ℤ). is_set m.1) (zip xs bs))
-    (All-filter (λ (m : ℤ × ℤ). is_set m.1) (λ (m : ℤ × ℤ). IsFlag m.0) (zip xs bs) (firsts IsFlag xs bs p))
+    (All-filter (λ (m : ℤ × ℤ). is_set m.1) (λ (m : ℤ × ℤ). IsFlag m.0) (zip xs bs)
+    (All-weaker (λ (m : ℤ × ℤ). IsFlag m.0 × Unit {0}) (λ m. IsFlag m.0) (λ m h. h.0) (zip xs bs)
+    (All-zip IsFlag (λ b. Unit {0}) xs bs p (any bs))))
 
 -- ---- descriptors that are made
 
@@ -200,57 +263,35 @@ none_negative (x ∷ xs) e = grind (arith, All-cons, (none_negative xs))
 made : (xs : List ℤ) → segmented_fault MakeSegdes (xs ∷ []) ≡ None → HasKind kind.Segdes xs
 made xs e = grind (arith, neither, none_negative, within)
 
+-- an operand that is of flags
+own : (e : SegmentedOp) (xs : List (List ℤ)) → HaveKinds (segmented_operands e) xs → (i : ℕ) →
+    slice_get (segmented_operands e) i ≡ Some kind.Bool → All IsFlag (operand xs i)
+own e xs h i = operand_kind (segmented_operands e) xs h i kind.Bool
+
 segmented_kinds : (e : SegmentedOp) (xs : List (List ℤ)) → HaveKinds (segmented_operands e) xs →
     segmented_fault e xs ≡ None → All HasItsKind (vectors_of (segmented_results e)
     (segmented_result e xs ∷ segmented_second e xs ∷ []))
-segmented_kinds (Scan Sum) xs h v = one kind.Int _ tt
-segmented_kinds (Scan Product) xs h v = one kind.Int _ tt
-segmented_kinds (Scan Max) xs h v = one kind.Int _ tt
-segmented_kinds (Scan Min) xs h v = one kind.Int _ tt
-segmented_kinds (Scan (LogicFold op Numbers)) xs h v = one kind.Int _ tt
 segmented_kinds (Scan (LogicFold op Flags)) xs h v = grind (arith, one, scan_flags, operand_kind)
-segmented_kinds (Reduce Sum) xs h v = one kind.Int _ tt
-segmented_kinds (Reduce Product) xs h v = one kind.Int _ tt
-segmented_kinds (Reduce Max) xs h v = one kind.Int _ tt
-segmented_kinds (Reduce Min) xs h v = one kind.Int _ tt
-segmented_kinds (Reduce (LogicFold op Numbers)) xs h v = one kind.Int _ tt
 segmented_kinds (Reduce (LogicFold op Flags)) xs h v = grind (arith, one, reduce_flags, operand_kind)
-segmented_kinds (Distribute Numbers) xs h v = one kind.Int _ tt
 segmented_kinds (Distribute Flags) xs h v =
-    one kind.Bool _ (distribute_flags (sizes (operand xs 1)) (operand xs 0)
-    (operand_kind (segmented_operands (Distribute Flags)) xs h 0 kind.Bool refl))
-segmented_kinds Index xs h v = one kind.Int _ tt
-segmented_kinds (Permute Numbers) xs h v = one kind.Int _ tt
+    one kind.Bool _ (distribute_flags (operand xs 1) (operand xs 0) (own (Distribute Flags) xs h 0 refl))
 segmented_kinds (Permute Flags) xs h v =
-    one kind.Bool _ (permute_flags (segments (operand xs 2) (operand xs 0)) (segments (operand xs 2) (operand xs 1))
-    (segment_flags (operand xs 2) (operand xs 0)
-    (operand_kind (segmented_operands (Permute Flags)) xs h 0 kind.Bool refl)))
-segmented_kinds (BackPermute Numbers) xs h v = one kind.Int _ tt
+    one kind.Bool _ (permute_flags (operand xs 2) (operand xs 0) (operand xs 1) (own (Permute Flags) xs h 0 refl))
 segmented_kinds (BackPermute Flags) xs h v =
-    one kind.Bool _ (gather_flags (segments (operand xs 2) (operand xs 0)) (segments (operand xs 3) (operand xs 1))
-    (segment_flags (operand xs 2) (operand xs 0)
-    (operand_kind (segmented_operands (BackPermute Flags)) xs h 0 kind.Bool refl)))
-segmented_kinds (DefaultPermute Numbers) xs h v = one kind.Int _ tt
+    one kind.Bool _ (gather_flags (operand xs 2) (operand xs 3) (operand xs 0) (operand xs 1)
+    (own (BackPermute Flags) xs h 0 refl))
 segmented_kinds (DefaultPermute Flags) xs h v =
-    let own = segmented_operands (DefaultPermute Flags) in
-    one kind.Bool _ (overlay_flags (segments (operand xs 3) (operand xs 0)) (segments (operand xs 3) (operand xs 1))
-    (segments (operand xs 4) (operand xs 2))
-    (segment_flags (operand xs 3) (operand xs 0) (operand_kind own xs h 0 kind.Bool refl))
-    (segment_flags (operand xs 4) (operand xs 2) (operand_kind own xs h 2 kind.Bool refl)))
-segmented_kinds (Extract Numbers) xs h v = one kind.Int _ tt
+    one kind.Bool _ (overlay_flags (operand xs 3) (operand xs 4) (operand xs 0) (operand xs 1) (operand xs 2)
+    (own (DefaultPermute Flags) xs h 0 refl) (own (DefaultPermute Flags) xs h 2 refl))
 segmented_kinds (Extract Flags) xs h v =
-    one kind.Bool _ (extract_flags (segments (operand xs 2) (operand xs 0)) (operand xs 1) (segment_flags (operand xs 2)
-    (operand xs 0) (operand_kind (segmented_operands (Extract Flags)) xs h 0 kind.Bool refl)))
-segmented_kinds (Replace Numbers) xs h v = one kind.Int _ tt
+    one kind.Bool _ (extract_flags (operand xs 2) (operand xs 0) (operand xs 1) (own (Extract Flags) xs h 0 refl))
 segmented_kinds (Replace Flags) xs h v =
-    let own = segmented_operands (Replace Flags) in
-    one kind.Bool _ (replace_flags (segments (operand xs 3) (operand xs 0)) (operand xs 1) (operand xs 2)
-    (segment_flags (operand xs 3) (operand xs 0) (operand_kind own xs h 0 kind.Bool refl))
-    (operand_kind own xs h 2 kind.Bool refl))
+    one kind.Bool _ (replace_flags (operand xs 3) (operand xs 0) (operand xs 1) (operand xs 2)
+    (own (Replace Flags) xs h 0 refl) (own (Replace Flags) xs h 2 refl))
 segmented_kinds (Pack Numbers) xs h v = grind (arith, two, pack_counts, operand_kind)
 segmented_kinds (Pack Flags) xs h v = grind (arith, two, packed_flags, operand_kind, pack_counts)
 segmented_kinds MakeSegdes xs h v = one kind.Segdes _ (made (operand xs 0) v)
-segmented_kinds Lengths xs h v = one kind.Int _ tt
+segmented_kinds e xs h v = one kind.Int _ tt
 
 -- the results of an instruction that takes these operands, and has no fault of the values
 pub kinds_of_results : (op : Op) (xs : List (List ℤ)) → HaveKinds (source_kinds op) xs → value_fault op xs ≡ None →
@@ -259,7 +300,4 @@ unfolding value_fault result_of second_result_of
 kinds_of_results (Const k) xs h v = one (kind_of k) _ (operand_kind (kind_of k ∷ []) xs h 0 (kind_of k) refl)
 kinds_of_results (Elementwise e) xs h v = elementwise_kinds e xs _ h
 kinds_of_results (Segmented e) xs h v = segmented_kinds e xs h v
-kinds_of_results If xs h v = All-nil HasItsKind
-kinds_of_results (Move motion lower upper) xs h v = All-nil HasItsKind
-kinds_of_results Call xs h v = All-nil HasItsKind
-kinds_of_results Return xs h v = All-nil HasItsKind
+kinds_of_results op xs h v = All-nil HasItsKind

@@ -1,36 +1,36 @@
--- What verified jobs reach, and how they end.
-use Rattle.std.proofs.Common.{◌≡◌, ℕ, ◌+◌, List, [], ◌∷◌, map, refl, sym, ◌∙◌, ap, arith, zero, suc}
+-- What verified jobs reach, and how they end; the words of the vectors that they reach are those of their kinds.
+use Rattle.std.proofs.Common.{◌≡◌, ℕ, ◌+◌, List, [], ◌∷◌, map, refl, sym, ◌∙◌, ap, arith, zero, suc, ◌++◌, length, take}
+use Rattle.std.proofs.Common.{subst}
 use Rattle.vcode_base.specs.declared.outcome.Outcome.TheVariants.{Returned}
 use Rattle.vcode_base.specs.Laws.{ResultsHaveNeededLengths}
 use Rattle.signatures.specs.Signatures.{Signature}
-use Rattle.job_steps.specs.Reached.{IsVerifiedTask, IsReached, IsWithin}
-use Rattle.job_steps.specs.Runs.{progress_from, state_after, whole_run, outcome, executed_count, peak}
-use Rattle.job_steps.specs.States.{Vector, Task, StackEntry, State, values_of}
-use Rattle.job_steps.specs.Steps.{Progress, Running, Over, Stuck, next_progress}
-use Rattle.job_steps.proofs.Bounds.{bounded, over_running}
-use Rattle.job_steps.proofs.KindLemmas.{kind_of, map-reverse}
-use Rattle.job_steps.proofs.Progresses.{item_of, calls_then, Goes, goes}
-use Rattle.job_steps.proofs.RunLaws.{within, over_stuck}
-use Rattle.job_steps.proofs.Typed.{IsTyped, typed, never_stuck}
+use Rattle.job_steps.specs.Reached.{IsVerifiedTask, IsReached, IsWithin, AreTyped, HasItsKind, ValuesHaveKinds}
+use Rattle.job_steps.specs.Runs.{state_after, whole_run, outcome, executed_count, peak}
+use Rattle.job_steps.specs.States.{Vector, Task, StackEntry, State, values_of, Active, words_of, stack_kinds}
+use Rattle.job_steps.specs.States.{new_entries}
+use Rattle.job_steps.specs.Steps.{Progress, Running, Over, Stuck, first_item, sources_of, question_of, results_of}
+use Rattle.std.specs.Prelude.{All}
+use Rattle.std.proofs.lemmas.List.Elements.{All-nil, All-cons, All-head, All-tail, All-take}
+use Rattle.vcode_base.specs.declared.kind.Kind.{Kind}
+use Rattle.vcode_base.specs.Instructions.{op_of}
+use Rattle.vcode_base.specs.Kinds.{HaveKinds, source_kinds}
+use Rattle.vcode_reader.specs.Trees.{Item, Body, End, Do, Choice, IsBodyInstruction}
+use Rattle.verifier.specs.Kinded.{Turns, scope_of}
+use Rattle.job_steps.specs.Motions.{top_entries}
+use Rattle.vcode_base.specs.declared.kind.Kind.TheVariants as kind
+use Rattle.job_steps.proofs.Bounds.{bounded, over_running, running_from, Went, went}
+use Rattle.job_steps.proofs.StackLemmas.{kind_of, map-reverse, cut, kinds-top_entries, All-reverse, All-stack_after}
+use Rattle.job_steps.proofs.Progresses.{item_of, calls_then, goes}
+use Rattle.job_steps.proofs.RunLaws.{by_runs, within, over_stuck}
+use Rattle.job_steps.proofs.Typed.{IsTyped, typed, never_stuck, regrouped}
+use Rattle.job_steps.proofs.ValueKinds.{kinds_of_results}
 
 pub reached : ResultsHaveNeededLengths → (signatures : List Signature) (task : Task) → IsVerifiedTask signatures task →
     (n : ℕ) (s : State) → state_after task n ≡ Running s → IsReached signatures task n s
 reached law signatures task v n s e =
     let b = bounded law task n s e in
     let t = typed signatures task v n s e in
-    record {
-      typed = t.1;
-      active = t.0;
-      count = b.count;
-      budget = b.budget;
-      tags = b.tags;
-      alike = b.alike;
-      words = b.words;
-      held = b.held;
-      highest = b.highest;
-      cells = b.cells;
-      calls = b.calls;
-    }
+    grind arith
 
 -- ---- each job ends
 
@@ -52,24 +52,86 @@ kinds-values : (stack : List StackEntry) → map (λ (v : Vector). v.kind) (valu
 kinds-values [] = refl
 kinds-values (e ∷ es) = ap (λ ks. kind_of e ∷ ks) (kinds-values es)
 
-returned_by : (signatures : List Signature) (task : Task) (s : State) → IsVerifiedTask signatures task →
-    IsTyped signatures task s → (q : Progress) → Goes task s q → (values : List Vector) (x p : ℕ) →
-    q ≡ Over (Returned values) x p → map (λ (v : Vector). v.kind) values ≡ task.verified.results
-returned_by signatures task s v t q h6 values x p e =
-    grind (arith, over_stuck, over_running, item_of, calls_then, map-reverse, kinds-values)
-
-returned_from : (signatures : List Signature) (task : Task) → IsVerifiedTask signatures task → (n : ℕ) (q : Progress) →
-    state_after task n ≡ q → ((values : List Vector) (x p : ℕ) → state_after task n ≡ Over (Returned values) x p →
-    map (λ (v : Vector). v.kind) values ≡ task.verified.results) → (values : List Vector) (x p : ℕ) →
-    progress_from task q ≡ Over (Returned values) x p → map (λ (v : Vector). v.kind) values ≡ task.verified.results
-returned_from signatures task v n (Running s) is before values x p e =
-    returned_by signatures task s v (typed signatures task v n s is) (next_progress task s) (goes task s) values x p e
-returned_from signatures task v n (Over ending y q) is before values x p e = before values x p (is ∙ e)
-returned_from signatures task v n Stuck is before values x p e = absurd (over_stuck _ x p (sym e))
-
 pub results_have_kinds : (signatures : List Signature) (task : Task) → IsVerifiedTask signatures task →
     (n : ℕ) (values : List Vector) (x p : ℕ) → state_after task n ≡ Over (Returned values) x p →
     map (λ v. v.kind) values ≡ task.verified.results
-results_have_kinds signatures task v zero values x p e = absurd (over_running _ x p _ (sym e))
-results_have_kinds signatures task v (suc n) values x p e =
-    returned_from signatures task v n (state_after task n) refl (results_have_kinds signatures task v n) values x p e
+results_have_kinds signatures task v n values x p =
+    by_runs task (λ q. q ≡ Over (Returned values) x p → map (λ (v : Vector). v.kind) values ≡ task.verified.results)
+    (λ e. absurd (over_running _ x p _ (sym e)))
+    (λ m s is e. let t = typed signatures task v m s is in let h = goes task s in
+    grind (arith, over_stuck, over_running, item_of, calls_then, map-reverse, kinds-values)) n
+
+abbrev pub IsKept : StackEntry → Type 0
+IsKept e = HasItsKind e.value
+
+-- ---- what an instruction reads
+
+have_kinds : (es : List StackEntry) → All IsKept es → HaveKinds (map kind_of es) (words_of es)
+have_kinds [] all = tt
+have_kinds (e ∷ es) all = (All-head IsKept e es all, have_kinds es (All-tail IsKept e es all))
+
+-- the entries at the top, of these kinds
+read_kinds : (stack : List StackEntry) (below takes own : List Kind) → takes ≡ own →
+    stack_kinds stack ≡ below ++ takes → All IsKept stack → HaveKinds own (words_of (top_entries (length own) stack))
+read_kinds stack below takes own t e all =
+    let parts = cut stack below own (e ∙ ap (λ ks. below ++ ks) t) in
+    let tops = top_entries (length own) stack in
+    let kept = have_kinds tops
+    (All-reverse IsKept (take (length own) stack) (All-take IsKept (length own) stack all)) in
+    rw (kinds-top_entries (length own) stack own parts.top) at kept
+
+sources_kinds : (signatures : List Signature) (task : Task) (item : Item) (takes gives below : List Kind)
+    (stack : List StackEntry) → IsBodyInstruction item → Turns (scope_of signatures task.verified.program) item takes
+    gives → stack_kinds stack ≡ below ++ takes → All IsKept stack →
+    HaveKinds (source_kinds (op_of item)) (sources_of item stack)
+sources_kinds signatures task item takes gives below stack own t e all = grind (arith, read_kinds)
+
+-- the next instruction's
+next_kinds : (signatures : List Signature) (task : Task) (results : List Kind) (rest : Body) (ret : ℕ)
+    (outer : List Active) (stack : List StackEntry) → AreTyped (scope_of signatures task.verified.program) results
+    (record { rest = rest; ret = ret } ∷ outer) (stack_kinds stack) → All IsKept stack →
+    HaveKinds (source_kinds (op_of (first_item rest ret).item)) (sources_of (first_item rest ret).item stack)
+next_kinds signatures task results End ret outer stack t all = tt
+next_kinds signatures task results (Do item line rest) ret outer stack (below, own, gives, e, h, proper, out) all =
+    sources_kinds signatures task item h.1 h.2 (below ++ h.0) stack proper.0 h.3
+    (regrouped (stack_kinds stack) below h.0 h.1 own e h.4) all
+next_kinds signatures task results (Choice line first second end rest) ret outer stack
+    (below, own, gives, e, h, proper, out) all =
+    read_kinds stack (below ++ h.0) (kind.Bool ∷ []) (kind.Bool ∷ []) refl
+    (regrouped (stack_kinds stack) below h.0 (kind.Bool ∷ []) own e h.2) all
+
+-- ---- states
+
+new_kept : (next : ℕ) (vs : List Vector) → All HasItsKind vs → All IsKept (new_entries next vs)
+new_kept next [] all = All-nil IsKept
+new_kept next (v ∷ vs) all =
+    grind (arith, All-cons, All-head, All-tail, (new_kept (next + 1) vs (All-tail HasItsKind v vs all)))
+
+kinds_at : (signatures : List Signature) (task : Task) (s : State) → IsTyped signatures task s → All IsKept s.stack →
+    (call : Active) (outer : List Active) → s.calls ≡ call ∷ outer →
+    HaveKinds (source_kinds (op_of (item_of call))) (sources_of (item_of call) s.stack)
+kinds_at signatures task s t k call outer calls =
+    next_kinds signatures task task.verified.results call.rest call.ret outer s.stack (rw calls at t.1) k
+
+kept_next : (signatures : List Signature) (task : Task) (s next : State) → IsTyped signatures task s →
+    All IsKept s.stack → Went task s next → All IsKept next.stack
+kept_next signatures task s next t k w =
+    let item = item_of w.call in
+    let q = question_of item s.stack in
+    let own = kinds_at signatures task s t k w.call w.outer w.passes.calls in
+    let new = new_kept s.next (results_of q) (kinds_of_results q.op q.sources own w.passes.late) in
+    subst (λ (after : State). All IsKept after.stack) w.new
+    (All-stack_after IsKept q.op (new_entries s.next (results_of q)) s.stack new k)
+
+kept : (signatures : List Signature) (task : Task) → IsVerifiedTask signatures task → (n : ℕ) (s : State) →
+    state_after task n ≡ Running s → All IsKept s.stack
+kept signatures task v zero s e = grind arith
+kept signatures task v (suc n) s e =
+    let from = running_from task (state_after task n) s e in
+    kept_next signatures task from.0 s (typed signatures task v n from.0 from.1)
+    (kept signatures task v n from.0 from.1) (went task from.0 s from.2)
+
+pub values_have_kinds : ValuesHaveKinds
+values_have_kinds signatures task v n s e =
+    let k = kept signatures task v n s e in
+    (k, kinds_at signatures task s (typed signatures task v n s e) k)

@@ -1,6 +1,6 @@
 //! Entries one on another.
 
-ghost use Rattle.std.specs.Prelude.{◌≡◌, ◌+◌, ◌<◌, ◌≤◌, [], ◌∷◌, ◌++◌, length, take, drop, reverse, slice_get};
+ghost use Rattle.std.specs.Prelude.{◌≡◌, ◌^◌, ◌+◌, ◌<◌, ◌≤◌, [], ◌∷◌, ◌++◌, length, take, drop, reverse, slice_get};
 ghost use Rattle.std.specs.Prelude.{Some, IfOk, vec_len, vec_capacity};
 ghost use Rattle.job_steps.specs.Motions.{stack_after_move, depth_after_move};
 
@@ -41,6 +41,7 @@ impl<T: Copy, A: Allocator> BoundedStack<T, A> {
     pub(crate) fn len(&self) -> usize
         ensures len { result ≡ length self.now.entries }
         ensures within { result ≤ self.now.room }
+        ensures fits { self.now.room < 2 ^ 64 }
     {
         let _room = self.room;
         self.entries.len()
@@ -77,16 +78,6 @@ impl<T: Copy, A: Allocator> BoundedStack<T, A> {
         ensures { self.new ≡ record self.old { entries = entry ∷ self.old.entries } }
     {
         self.entries.push_reserved(entry);
-    }
-
-    /// Puts an entry in the place of the one at the top.
-    #[inline(always)]
-    pub(crate) fn replace_top(&mut self, entry: T)
-        requires { 0 < length self.old.entries }
-        ensures { self.new ≡ record self.old { entries = entry ∷ drop 1 self.old.entries } }
-    {
-        let last = self.entries.len() - 1;
-        self.entries[last] = entry;
     }
 
     /// Puts these on the others, the last of them at the top.
@@ -182,6 +173,7 @@ fn turn<T: Copy, A: Allocator>(entries: &mut Vec<T, A>, below: usize, lower: usi
 }
 
 /// The same, through the room after all entries.
+#[tactic(auto, using(crate::proofs::Turns::turned_by_copy))]
 #[inline(always)]
 fn turn_by_copy<T: Copy, A: Allocator>(entries: &mut Vec<T, A>, below: usize, lower: usize)
     requires there { below + lower ≤ vec_len entries.old }
@@ -197,6 +189,7 @@ fn turn_by_copy<T: Copy, A: Allocator>(entries: &mut Vec<T, A>, below: usize, lo
 }
 
 /// Moves the first entry after the others.
+#[tactic(auto, using(crate::proofs::Turns::moved_one, crate::proofs::Turns::moved_all))]
 #[inline(always)]
 fn first_to_last<T: Copy>(entries: &mut [T])
     requires { 0 < length entries.old }

@@ -111,6 +111,7 @@ impl<A: Allocator> Desk<A> {
     /// `job` is the number of the job, from 1 on, and `step` how many instructions it executed before.
     /// `operands` has the operands of `op` from the bottom of the stack up, as [`lengths`](crate::lengths) takes them,
     /// which has answered `Ok`. None of them has more words than the desk, and neither have the results, together.
+    #[tactic(auto, using(crate::proofs::OperandLemmas::few_lent))]
     pub fn ask(self, job: usize, step: u64, op: Op, operands: &[&[i64]]) -> Ticket<A>
         requires can { CanAnswer self (question_by op (contents operands.now)) }
         requires room { HaveAtMost self (contents operands.now) }

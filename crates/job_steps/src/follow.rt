@@ -6,7 +6,7 @@ ghost use Rattle.job_steps.specs.Frames.{AreActive, IsSettled, Stands, StandAll,
 ghost use Rattle.job_steps.specs.States.{Active, Callee, first_state};
 ghost use Rattle.job_steps.specs.Tracks.{CanFollow, Follow, IsCallOf, first_call, functions_of};
 
-use crate::bounded_stack::BoundedStack;
+use crate::calls::Calls;
 use crate::frame::Frame;
 use crate::job::Job;
 use std::alloc::{AllocError, Allocator};
@@ -14,21 +14,16 @@ use vcode_base::Op;
 use vcode_reader::Program;
 
 /// The frame of the first line of `MAIN`, with room for as many as the job may have calls.
-pub(crate) fn first_frames<A: Allocator>(
-    alloc: A,
-    job: &Job<A>,
-) -> Result<BoundedStack<Frame, A>, AllocError>
+pub(crate) fn first_frames<A: Allocator>(alloc: A, job: &Job<A>) -> Result<Calls<A>, AllocError>
     ensures room { IfOk result (λ frames. frames.room ≡ job.now.limits.calls) }
     ensures stand { IfOk result (λ frames.
         StandAll (functions_of job.now.verified) frames.entries (first_state job.now.verified).calls) }
 {
-    let main = main_frame(job);
-    let mut frames = BoundedStack::new(alloc, job.limits().calls)?;
-    frames.push(main);
-    Ok(frames)
+    Calls::new(alloc, job.limits().calls, main_frame(job))
 }
 
 /// The frame of the first line of `MAIN`.
+#[tactic(auto, using(crate::proofs::Following::same_functions, crate::proofs::Following::main_is))]
 fn main_frame<A: Allocator>(job: &Job<A>) -> Frame
     ensures { StandAll (functions_of job.now.verified) (result ∷ []) (first_state job.now.verified).calls }
 {
@@ -38,27 +33,23 @@ fn main_frame<A: Allocator>(job: &Job<A>) -> Frame
 
 /// Passes over each `ELSE` and `ENDIF` before the line that is executed next.
 #[inline(always)]
-pub(crate) fn settle<A: Allocator>(frames: &mut BoundedStack<Frame, A>, program: &Program<A>)
+pub(crate) fn settle<A: Allocator>(frames: &mut Calls<A>, program: &Program<A>)
     requires { AreActive program.now.functions frames.old.entries }
     ensures room { frames.new.room ≡ frames.old.room }
     ensures stand { (calls : List Active) → StandAll program.now.functions frames.old.entries calls
         → StandAll program.now.functions frames.new.entries calls }
     ensures settled { IsSettled program.now.functions frames.new.entries }
 {
-    while let Some(frame) = frames.at(0).passed(program) {
-        frames.replace_top(frame);
+    while let Some(frame) = frames.innermost().passed(program) {
+        frames.go_on_at(frame);
     }
 }
 
 /// Follows the next instruction of the innermost call, which is at its line, and is this one without its list or name.
 /// The flag is that of an `IF`, and of no account elsewhere.
+#[tactic(auto, using(crate::proofs::Following::of_follow))]
 #[inline(always)]
-pub(crate) fn follow<A: Allocator>(
-    frames: &mut BoundedStack<Frame, A>,
-    job: &Job<A>,
-    op: Op,
-    flag: bool,
-)
+pub(crate) fn follow<A: Allocator>(frames: &mut Calls<A>, job: &Job<A>, op: Op, flag: bool)
     requires can { CanFollow job.now.verified op frames.old.entries frames.old.room }
     requires settled { IsSettled (functions_of job.now.verified) frames.old.entries }
     ensures room { frames.new.room ≡ frames.old.room }
@@ -66,17 +57,17 @@ pub(crate) fn follow<A: Allocator>(
     ensures goes_on { (op ≡ Return → ⊥) → 0 < length frames.new.entries }
 {
     let program = job.verified().program();
-    let frame = frames.at(0);
+    let frame = frames.innermost();
     match op {
-        Op::If => frames.replace_top(frame.chosen(program, flag)),
-        Op::Return => frames.lower(1),
+        Op::If => frames.go_on_at(frame.chosen(program, flag)),
+        Op::Return => frames.leave(),
         Op::Call => {
             let callee = called(frame, job);
-            frames.replace_top(frame.next(program));
-            frames.push(callee);
+            frames.go_on_at(frame.next(program));
+            frames.enter(callee);
         }
         Op::Const(_) | Op::Elementwise(_) | Op::Segmented(_) | Op::Move(..) => {
-            frames.replace_top(frame.next(program))
+            frames.go_on_at(frame.next(program))
         }
     }
 }

@@ -40,6 +40,7 @@ impl Frame {
     }
 
     /// Its line, which is executed next.
+    #[tactic(auto, using(crate::proofs::Standing::line_at))]
     #[inline(always)]
     pub(crate) fn settled_line<'a, A: Allocator>(self, program: &'a Program<A>) -> CodeLine<'a>
         requires stands { (call : Active) × Stands program.now.functions self call }
@@ -50,6 +51,7 @@ impl Frame {
     }
 
     /// The frame at the line that is executed next.
+    #[tactic(auto, using(crate::proofs::Standing::stands_settled, crate::proofs::Standing::stop_from))]
     #[inline(always)]
     fn settled<A: Allocator>(self, program: &Program<A>) -> Frame
         requires { (call : Active) × Stands program.now.functions self call }
@@ -82,6 +84,7 @@ impl Frame {
     }
 
     /// The frame after an instruction, which is at its place, that goes on at what follows it.
+    #[tactic(auto, using(crate::proofs::Standing::stands_next))]
     #[inline(always)]
     pub(crate) fn next<A: Allocator>(self, program: &Program<A>) -> Frame
         requires stands { (call : Active) × Stands program.now.functions self call }
@@ -98,6 +101,7 @@ impl Frame {
     }
 
     /// The frame at the part of an `IF`, which is at its place, that its flag chooses.
+    #[tactic(auto, using(crate::proofs::Standing::stands_chosen))]
     #[inline(always)]
     pub(crate) fn chosen<A: Allocator>(self, program: &Program<A>, flag: bool) -> Frame
         requires stands { (call : Active) × Stands program.now.functions self call }
@@ -136,6 +140,7 @@ fn behind<A: Allocator>(function: &Function<A>, place: usize) -> usize
 }
 
 /// The place of the part of an `IF` that its flag chooses.
+#[tactic(auto, using(crate::proofs::Standing::parts))]
 #[inline(always)]
 fn part<A: Allocator>(function: &Function<A>, place: usize, flag: bool) -> usize
     requires { place < length (lines_of function.now) }
@@ -167,6 +172,7 @@ fn settled<A: Allocator>(function: &Function<A>, place: usize) -> usize
 }
 
 /// The place at which an `ELSE` or an `ENDIF` at this place goes on.
+#[tactic(auto, using(crate::proofs::Standing::of_passed))]
 #[inline(always)]
 fn passed<A: Allocator>(function: &Function<A>, place: usize) -> Option<usize>
     ensures { MatchOption result

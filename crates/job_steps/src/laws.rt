@@ -32,16 +32,19 @@ pub fn reached()
 }
 
 /// A verified job never meets a missing operand, a wrong kind or an unknown function.
+#[tactic(auto, using(crate::proofs::Typed::never_stuck))]
 pub fn never_stuck()
     ensures { NeverStuck }
 {}
 
 /// A run that is over stays over, with the same end and counts.
+#[tactic(auto, using(crate::proofs::RunLaws::over_stays))]
 pub fn ends_once()
     ensures { EndsOnce }
 {}
 
 /// A verified job ends, after at most its budget's instructions, and within its words.
+#[tactic(auto, using(crate::proofs::VerifiedRuns::each_ends))]
 pub fn each_ends()
     ensures { EachEnds }
 {
@@ -49,6 +52,7 @@ pub fn each_ends()
 }
 
 /// Whenever a job is found to be over, its end and its counts are those of the job.
+#[tactic(auto, using(crate::proofs::RunLaws::end_is_own))]
 pub fn end_is_own()
     ensures { EndIsOwn }
 {
@@ -56,12 +60,14 @@ pub fn end_is_own()
 }
 
 /// A verified job that returns has results of the kinds that the signature of its `MAIN` gives.
+#[tactic(auto, using(crate::proofs::VerifiedRuns::results_have_kinds))]
 pub fn results_have_kinds()
     ensures { ResultsHaveKinds }
 {}
 
 /// The words of each vector that a verified job reaches are those of its kind, and so are the operands of
 /// its next instruction.
+#[tactic(auto, using(crate::proofs::VerifiedRuns::values_have_kinds))]
 pub fn values_have_kinds()
     ensures { ValuesHaveKinds }
 {}
@@ -80,6 +86,7 @@ pub fn each_track_follows<C>()
 
 /// If a track is at a state that a verified job reaches, some call is active, and its line can be read;
 /// the operands of its next instruction are there, are of their kinds, and lie within what the job may hold.
+#[tactic(auto, using(crate::proofs::StepLemmas::steps_can_begin))]
 pub fn steps_can_begin<C>()
     ensures { StepsCanBegin C }
 {
@@ -112,6 +119,7 @@ pub fn second_rule_ends_alike()
 {}
 
 /// A verified job executes no fewer instructions under the second rule than under the first.
+#[tactic(auto, using(crate::proofs::OtherRuns::second_rule_goes_as_far))]
 pub fn second_rule_goes_as_far()
     ensures { SecondRuleGoesAsFar }
 {
@@ -145,17 +153,20 @@ pub fn events_change_their_job()
 {}
 
 /// An event that isn't open changes nothing.
+#[tactic(auto, using(crate::proofs::Happenings::closed_changes_nothing))]
 pub fn closed_change_nothing()
     ensures { ClosedChangeNothing }
 {}
 
 /// An event that names a job that there isn't is not open.
+#[tactic(auto, using(crate::proofs::Happenings::missing_is_closed))]
 pub fn missing_are_closed()
     ensures { MissingAreClosed }
 {}
 
 /// The job that is admitted next waits, and its words fit into the region beside those that are
 /// granted.
+#[tactic(auto, using(crate::proofs::Standings::admitted_has_room))]
 pub fn admitted_have_room()
     ensures { AdmittedHaveRoom }
 {}
@@ -167,27 +178,32 @@ pub fn admissions_are_next()
 {}
 
 /// An admission passes by each job that waits before the admitted one, once more, and no other job.
+#[tactic(auto, using(crate::proofs::Admissions::admissions_pass_those_before))]
 pub fn admissions_pass_those_before()
     ensures { AdmissionsPassThoseBefore }
 {}
 
 /// An event other than an admission passes by no job.
+#[tactic(auto, using(crate::proofs::Admissions::others_pass_nobody))]
 pub fn others_pass_nobody()
     ensures { OthersPassNobody }
 {}
 
 /// An admission passes by each job that waits before the admitted one, once.
+#[tactic(auto, using(crate::proofs::Admissions::admissions_pass_once))]
 pub fn admissions_pass_once()
     ensures { AdmissionsPassOnce }
 {}
 
 /// If each job was passed by at most [`MOST_PASSES`](vcode_base::limits::MOST_PASSES) times, that is so after any
 /// events too. It is so before the first event.
+#[tactic(auto, using(crate::proofs::Admissions::passes_are_few))]
 pub fn passes_are_few()
     ensures { PassesAreFew }
 {}
 
 /// A job that waits no longer is passed by no more, whatever the events.
+#[tactic(auto, using(crate::proofs::Admissions::passes_stay))]
 pub fn passes_stay()
     ensures { PassesStay }
 {}
@@ -215,6 +231,7 @@ pub fn recalls_keep()
 
 /// A verified job that an event leaves ended is over alone, after one instruction more than it had
 /// executed, with its own outcome and counts.
+#[tactic(auto, using(crate::proofs::Kept::ended_is_over))]
 pub fn ended_are_over()
     ensures { EndedAreOver }
 {
@@ -225,6 +242,7 @@ pub fn ended_are_over()
 
 /// At each standing a verified job has executed at most its budget's instructions, it held and needed at most its
 /// words, and what it holds is at most what is reserved for it.
+#[tactic(auto, using(crate::proofs::Kept::use_is_within))]
 pub fn use_is_within()
     ensures { UseIsWithin }
 {
@@ -232,11 +250,13 @@ pub fn use_is_within()
 }
 
 /// With another standing of one job, a sum over all jobs changes by that job's number alone.
+#[tactic(auto, using(crate::proofs::Standings::sum_with))]
 pub fn sums_follow_standings()
     ensures { SumsFollowStandings }
 {}
 
 /// The words of the vectors of all jobs are at most those that are granted.
+#[tactic(auto, using(crate::proofs::Kept::used_is_granted))]
 pub fn used_is_granted()
     ensures { UsedIsGranted }
 {
@@ -250,6 +270,7 @@ pub fn events_go_on()
 {}
 
 /// Each open event that is no recall leaves fewer events to come.
+#[tactic(auto, using(crate::proofs::Kept::events_use_up))]
 pub fn events_use_up()
     ensures { EventsUseUp }
 {
@@ -257,6 +278,7 @@ pub fn events_use_up()
 }
 
 /// Of events that are open and no recalls there are no more than are left to the jobs at the start.
+#[tactic(auto, using(crate::proofs::Kept::events_end))]
 pub fn events_end()
     ensures { EventsEnd }
 {
@@ -267,6 +289,7 @@ pub fn events_end()
 
 /// Of events that are open and no recalls, at most twice its budget and three are of one job, its
 /// admission counted.
+#[tactic(auto, using(crate::proofs::Kept::events_are_few))]
 pub fn events_are_few()
     ensures { EventsAreFew }
 {
@@ -276,6 +299,7 @@ pub fn events_are_few()
 }
 
 /// An event of one job leaves every other job as it was.
+#[tactic(auto, using(crate::proofs::EventOrder::others_stay))]
 pub fn others_stay()
     ensures { OthersStay }
 {}
@@ -286,11 +310,13 @@ pub fn events_commute()
 {}
 
 /// A recall after the begin of a step leaves all jobs as they were before both.
+#[tactic(auto, using(crate::proofs::EventOrder::recall_undoes_begin))]
 pub fn recall_undoes_begin()
     ensures { RecallUndoesBegin }
 {}
 
 /// Events after events lead where their lists joined lead.
+#[tactic(auto, using(crate::proofs::EventOrder::events_join))]
 pub fn events_join()
     ensures { EventsJoin }
 {}
@@ -301,6 +327,7 @@ pub fn leads_join()
 {}
 
 /// A recall of each job, one after another, gives up each step that has begun.
+#[tactic(auto, using(crate::proofs::EventOrder::recalls_are_events))]
 pub fn recalls_are_events()
     ensures { RecallsAreEvents }
 {}

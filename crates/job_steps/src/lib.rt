@@ -23,6 +23,7 @@
 #![tactic(auto)]
 
 mod bounded_stack;
+mod calls;
 mod desk;
 mod event;
 mod fault;
@@ -37,6 +38,7 @@ mod step;
 mod ticket;
 mod track;
 
+pub use calls::Frames;
 pub use desk::Desk;
 pub use event::Event;
 pub use filled::{Filled, compute, flag};

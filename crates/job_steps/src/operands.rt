@@ -66,6 +66,7 @@ impl<A: Allocator> OperandBuffer<A> {
     }
 
     /// How many lists are loaded.
+    #[tactic(auto, using(crate::proofs::OperandLemmas::how_many))]
     pub(crate) fn count(&self) -> usize
         ensures { result ≡ length self.now.lists }
     {
@@ -73,6 +74,7 @@ impl<A: Allocator> OperandBuffer<A> {
     }
 
     /// The lists, and after them whatever words the buffer has there.
+    #[tactic(auto, using(crate::proofs::OperandLemmas::of_lists))]
     pub(crate) fn lists(&self) -> [&[i64]; MOST_OPERANDS]
         ensures { take (length self.now.lists) (contents result) ≡ self.now.lists }
     {

@@ -11,9 +11,9 @@ ghost use Rattle.job_steps.specs.Steps.{memory_fault, next_item};
 ghost use Rattle.job_steps.specs.Tracks.{IsFirst, IsDeep, CanFollow, Advances, functions_of};
 
 use crate::bounded_stack::BoundedStack;
+use crate::calls::{Calls, Frames};
 use crate::fault::memory_fault;
 use crate::follow::{first_frames, follow, settle};
-use crate::frame::Frame;
 use crate::job::Job;
 use std::alloc::{AllocError, Allocator};
 use std::marker::Model;
@@ -29,7 +29,7 @@ use vcode_reader::{CodeLine, Program};
 pub struct Track<C, A: Allocator> {
     limits: Limits,
     cells: BoundedStack<C, A>,
-    frames: BoundedStack<Frame, A>,
+    frames: Calls<A>,
     executed: u64,
     peak: usize,
 }
@@ -122,6 +122,7 @@ impl<C: Copy, A: Allocator> Track<C, A> {
     }
 
     /// The line of the next instruction in the job's program. Some call has to be active.
+    #[tactic(auto, using(crate::proofs::Following::of_next_lines))]
     #[inline(always)]
     pub fn line<'a>(&self, program: &'a Program<A>) -> CodeLine<'a>
         requires { AreActive program.now.functions self.now.frames }
@@ -131,10 +132,11 @@ impl<C: Copy, A: Allocator> Track<C, A> {
             → StandAll program.now.functions self.now.frames (call ∷ outer)
             → next_item call ≡ instruction_of result }
     {
-        self.frames.at(0).line(program)
+        self.frames.innermost().line(program)
     }
 
     /// The same of a track that is settled, which takes less time.
+    #[tactic(auto, using(crate::proofs::Following::of_next_lines))]
     #[inline(always)]
     pub fn settled_line<'a>(&self, program: &'a Program<A>) -> CodeLine<'a>
         requires active { AreActive program.now.functions self.now.frames }
@@ -143,7 +145,7 @@ impl<C: Copy, A: Allocator> Track<C, A> {
             → StandAll program.now.functions self.now.frames (call ∷ outer)
             → next_item call ≡ instruction_of result }
     {
-        self.frames.at(0).settled_line(program)
+        self.frames.innermost().settled_line(program)
     }
 
     /// Passes over each `ELSE` and `ENDIF` before the line of the next instruction. Some call has to be active.
@@ -174,6 +176,7 @@ impl<C: Copy, A: Allocator> Track<C, A> {
     ///
     /// The entries that it takes have to be there, no limit may be passed, and a function that it calls has
     /// to be there. At `RET` of the only active call none is active afterwards, and the entries stay.
+    #[tactic(auto, using(crate::proofs::Following::same_length))]
     pub fn advance(&mut self, job: &Job<A>, op: Op, flag: bool, results: &[C], words: usize)
         requires budget { self.old.executed < self.old.limits.budget }
         requires deep { IsDeep op (length self.old.cells) }
@@ -212,10 +215,10 @@ impl<C: Copy, A: Allocator> Track<C, A> {
 
     /// The places at which the active calls go on, that of the innermost last. After
     /// [`settle`](Track::settle) that is the line of the next instruction.
-    pub fn frames(&self) -> &[Frame]
-        ensures { result.now ≡ reverse self.now.frames }
+    pub fn frames(&self) -> Frames<'_>
+        ensures { result ≡ reverse self.now.frames }
     {
-        self.frames.as_slice()
+        self.frames.frames()
     }
 }
 

@@ -1,10 +1,11 @@
 -- The sums over a list of grants.
 use Rattle.std.proofs.Common.{◌≡◌, ℕ, zero, suc, ◌+◌, ◌-◌, ◌<◌, ◌≤◌, List, [], ◌∷◌, length, get_or, Option}
-use Rattle.std.proofs.Common.{None, subst, arith}
-use Rattle.std.specs.Prelude.{sum_by}
+use Rattle.std.proofs.Common.{Some, None, set, refl, sym, ap, subst, arith}
+use Rattle.std.specs.Prelude.{IsSome, sum_by}
 use Rattle.std.proofs.lemmas.List.Sums.{sum_by-cons}
 use Rattle.reservations.specs.declared.Grant.{Grant}
-use Rattle.reservations.specs.BookState.{BookState, words_of, held_of, IsCovered}
+use Rattle.reservations.specs.BookState.{BookState, IsJob, grant_of, words_of, held_of, words_held_by}
+use Rattle.reservations.specs.BookState.{with_held, IsCovered}
 use Rattle.reservations.specs.Laws.{HeldIsWithinGranted, GrantedWordsAreThere}
 
 -- of the grant at a place no more is held than it has
@@ -63,3 +64,21 @@ granted_words_are_there book job n covers is fits =
       covers.region,
       held_sum-le-words_sum_more book.grants (job - 1) n (each_within book covers) (omega (arith, is.0, is.1)) fits,
     )
+
+-- a grant with the words that it has, of which as many are held
+same_grant : (grants : List (Option Grant)) (index held : ℕ) → index < length grants →
+    IsSome (get_or grants index None) → held ≡ held_of (get_or grants index None) →
+    set grants index (Some (record { words = words_of (get_or grants index None); held = held })) ≡ grants
+same_grant [] index held within some is = absurd (omega (arith, within))
+same_grant (None ∷ grants) zero held within some is = grind arith
+same_grant (Some grant ∷ grants) zero held within some is =
+    ap (λ (h : ℕ). let g : Grant = record { words = grant.words; held = h } in (Some g ∷ grants)) is
+same_grant (grant ∷ grants) (suc index) held within some is =
+    ap (λ (gs : List (Option Grant)). grant ∷ gs) (same_grant grants index held (omega (arith, within)) some is)
+
+-- a refund of nothing
+pub none_refunded : (book : BookState) (job n : ℕ) → IsJob book job → IsSome (grant_of book job) → n ≡ 0 →
+    book ≡ with_held book job (words_held_by book job - n)
+none_refunded book job n is_job has none =
+    ap (λ (gs : List (Option Grant)). let b : BookState = record { region = book.region; grants = gs } in b)
+    (sym (same_grant book.grants (job - 1) _ (omega (arith, is_job)) has (omega (arith, none))))

@@ -117,13 +117,17 @@ impl<A: Allocator> Book<A> {
     }
 
     /// A job, which has a grant, holds `n` words less: at most all that it holds.
+    #[tactic(auto, using(crate::proofs::Sums::none_refunded))]
     pub fn refund(&mut self, job: usize, n: usize)
         requires is_job { IsJob self.old job }
         requires has_grant { IsSome (grant_of self.old job) }
         requires holds { n ≤ words_held_by self.old job }
         ensures { self.new ≡ with_held self.old job (words_held_by self.old job - n) }
     {
-        self.grants[job - 1].as_mut().unwrap().held -= n;
+        // Most releases free nothing.
+        if n > 0 {
+            self.grants[job - 1].as_mut().unwrap().held -= n;
+        }
     }
 
     /// A job that has a grant gives back `back` of the words that it holds, and then holds `n` words more.

@@ -1,5 +1,5 @@
-use Rattle.std.proofs.Common.{rules, arith}
-use Rattle.job_steps.proofs.QuestionLemmas.{can_answer_in_front}
+use Rattle.std.proofs.Common.{rules}
+use Rattle.job_steps.proofs.OperandLemmas.{can_answer_in_front}
 use Rattle.job_steps.proofs.filled.fill_results.Goals as goal
 
 pub need-requires-clause-kinds : goal.need-requires-clause-kinds
@@ -8,11 +8,5 @@ need-requires-clause-kinds g c =
     (can_answer_in_front c.args.op buffers.words _ c.count-count.result c.lists-lists.result buffers.operands.lists
     buffers.result_room c.count-count.ensures c.lists-lists.ensures c.requires).kinds
 
-pub need-requires-clause-shape : goal.need-requires-clause-shape
-need-requires-clause-shape g c = grind arith
-
 pub fill_front-requires-clause-can : goal.fill_front-requires-clause-can
 fill_front-requires-clause-can g c = search (rules, can_answer_in_front)
-
-pub returns-clause-answer : goal.returns-clause-answer
-returns-clause-answer g c = grind arith

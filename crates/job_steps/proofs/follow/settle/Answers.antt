@@ -6,5 +6,5 @@ pub passed-requires : goal.passed-requires
 passed-requires g c =
     let call = c.requires.0 in
     let outer = c.requires.1 in
-    top_active c.args.program.now.functions c.loop-frame.frames.entries c.at.result c.at.ensures
+    top_active c.args.program.now.functions c.loop-frame.frames.entries c.innermost.result c.innermost.ensures
     (call, outer, c.loop-frame.invariant.1 (call ∷ outer) c.requires.2)

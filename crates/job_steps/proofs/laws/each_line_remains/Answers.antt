@@ -1,4 +1,4 @@
-use Rattle.job_steps.proofs.Remains.{each_line_remains}
+use Rattle.job_steps.proofs.Passing.{each_line_remains}
 use Rattle.job_steps.proofs.laws.each_line_remains.Goals as goal
 
 pub returns : goal.returns

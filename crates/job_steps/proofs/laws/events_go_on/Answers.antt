@@ -1,4 +1,4 @@
-use Rattle.job_steps.proofs.GoOn.{events_go_on}
+use Rattle.job_steps.proofs.Admissions.{events_go_on}
 use Rattle.job_steps.proofs.laws.events_go_on.Goals as goal
 
 pub returns : goal.returns

@@ -1,4 +1,4 @@
-use Rattle.job_steps.proofs.LeastLimits.{used_are_least}
+use Rattle.job_steps.proofs.OtherRuns.{used_are_least}
 use Rattle.job_steps.proofs.laws.used_are_least.Goals as goal
 
 pub returns : goal.returns

@@ -11,7 +11,7 @@ pub returns-in-Some : goal.returns-in-Some
 returns-in-Some g c =
     let i = c.self.inside in
     let shows = c.in-Some.ensures i.walk.run.task c.self.invariant.are_kept in
-    subst (λ (p : Place). StandAt p.task c.frames.result.now (state_at p)) c.self.view_is
+    subst (λ (p : Place). StandAt p.task c.frames.result (state_at p)) c.self.view_is
     (subst (λ (l : List Frame). StandAt i.walk.run.task l (state_after i.walk.run.task i.at))
     (sym c.frames.ensures) shows.frames)
 
@@ -20,5 +20,5 @@ returns-in-None g c =
     let i = c.self.inside in
     let come = come_to i.walk.run i.walk.at i.at c.self.invariant.run_at
     (c.in-None.ensures i.walk.run.task c.self.invariant.are_kept) in
-    subst (λ (p : Place). StandAt p.task c.frames-in-None.result.now (state_at p)) c.self.view_is
-    (subst (λ (q : Progress). StandAt i.walk.run.task c.frames-in-None.result.now q) come c.frames-in-None.ensures)
+    subst (λ (p : Place). StandAt p.task c.frames-in-None.result (state_at p)) c.self.view_is
+    (subst (λ (q : Progress). StandAt i.walk.run.task c.frames-in-None.result q) come c.frames-in-None.ensures)

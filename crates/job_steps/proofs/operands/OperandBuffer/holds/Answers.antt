@@ -1,4 +1,4 @@
-use Rattle.job_steps.proofs.QuestionLemmas.{contents_in_front, same_lists}
+use Rattle.job_steps.proofs.OperandLemmas.{contents_in_front, same_lists}
 use Rattle.job_steps.proofs.operands.OperandBuffer.holds.Goals as goal
 
 pub returns : goal.returns

@@ -2,7 +2,7 @@ use Rattle.std.proofs.Common.{◌≡◌, ◌∙◌, ap, arith, length, map}
 use Rattle.vcode_base.specs.Operands.{contents}
 use Rattle.vcode_base.specs.Segments.{pieces_of}
 use Rattle.job_steps.specs.Buffers.{OperandLists, in_a_row}
-use Rattle.job_steps.proofs.BufferLemmas.{loaded, length-in_a_row, pieces_in_a_row}
+use Rattle.job_steps.proofs.OperandLemmas.{loaded, length-in_a_row, pieces_in_a_row}
 use Rattle.job_steps.proofs.operands.OperandBuffer.load.Given.{Over}
 use Rattle.job_steps.proofs.operands.OperandBuffer.load.Goals as goal
 use Rattle.job_steps.proofs.operands.OperandBuffer.load.Goals.{After-append_in_a_row}

@@ -1,5 +1,0 @@
-use Rattle.job_steps.proofs.StepLemmas.{steps_can_begin}
-use Rattle.job_steps.proofs.laws.steps_can_begin.Goals as goal
-
-pub returns : goal.returns
-returns g c = steps_can_begin c.reached.ensures c.values_have_kinds.ensures g.row.C.Denot
