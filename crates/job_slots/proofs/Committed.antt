@@ -1,35 +1,27 @@
 -- The slot of a job after a step that was committed.
-use Rattle.std.proofs.Common.{◌≡◌, ◌∙◌, ◌+◌, ◌<◌, ◌≤◌, ℕ, Bool, true, false, List, [], ◌∷◌, length, Option, Some, None}
-use Rattle.std.proofs.Common.{refl, sym, ap, subst, arith}
+use Rattle.std.proofs.Common.{◌≡◌, ◌∙◌, ◌+◌, ◌<◌, ◌≤◌, ℕ, Bool, true, false, List, [], ◌∷◌, length, Some, None, refl}
+use Rattle.std.proofs.Common.{ap, arith}
 use Rattle.vcode_base.specs.declared.fault.DataFault.{DataFault}
-use Rattle.vcode_base.specs.declared.outcome.Outcome.{Outcome}
 use Rattle.vcode_base.specs.declared.outcome.Outcome.TheVariants.{Fault}
 use Rattle.vcode_base.specs.Instructions.{op_of}
 use Rattle.vcode_base.specs.Meaning.{value_fault}
-use Rattle.vcode_reader.specs.Trees.{Function}
-use Rattle.signatures.specs.Signatures.{Signature}
 use Rattle.refcounts.specs.SharedState.{Slot, block_count}
 use Rattle.job_memory.specs.JobBlocks.{JobBlocks, ChangesOnlyOf, grant_of, own_slots}
 use Rattle.job_steps.specs.declared.event.Event.TheVariants as event
-use Rattle.job_steps.specs.declared.frame.Frame.{Frame}
 use Rattle.job_steps.specs.EventLaws.{OthersAreReady, IsVerified}
 use Rattle.job_steps.specs.Events.{early_end, next_standing, standing_after}
-use Rattle.job_steps.specs.Frames.{StandAll}
 use Rattle.job_steps.specs.Questions.{Question}
-use Rattle.job_steps.specs.Reached.{Reaches, EndIsOwn, IsVerifiedTask}
-use Rattle.job_steps.specs.Runs.{state_after, peak}
+use Rattle.job_steps.specs.Reached.{Reaches, EndIsOwn}
+use Rattle.job_steps.specs.Runs.{state_after}
 use Rattle.job_steps.specs.Standings.{Standing, Live, InFlight, Ended}
-use Rattle.job_steps.specs.States.{Vector, Task, Active, State}
-use Rattle.job_steps.specs.Steps.{Progress, Running, Over, Stuck, next_item, sources_of, question_of, flag_of}
-use Rattle.job_steps.specs.Steps.{calls_after, progress_by}
+use Rattle.job_steps.specs.States.{Task, Active, State}
+use Rattle.job_steps.specs.Steps.{Progress, Running, Over, Stuck, next_item, sources_of}
 use Rattle.job_steps.specs.Tickets.{Asked}
-use Rattle.job_steps.specs.Tracks.{TrackState, functions_of}
-use Rattle.job_slots.specs.declared.status.Status.{Status}
+use Rattle.job_steps.specs.Tracks.{TrackState}
 use Rattle.job_slots.specs.declared.status.Status.TheVariants as status
-use Rattle.job_slots.specs.Answers.{CanStep, Fits, IsEnding, TakesStep, early_end_at, is_live, question_at, line_at}
-use Rattle.job_slots.specs.Answers.{line_before, standing_after_step}
-use Rattle.job_slots.specs.Slots.{SlotState, Shows, ShowsAs, IsRunningSlot, IsFlyingSlot, HasEnded, IsAfter}
-use Rattle.job_slots.specs.Slots.{standing_of, grant_by}
+use Rattle.job_slots.specs.Answers.{CanStep, Fits, IsEnding, TakesStep, early_end_at, question_at, line_at, line_before}
+use Rattle.job_slots.specs.Answers.{standing_after_step}
+use Rattle.job_slots.specs.Slots.{SlotState, Shows, IsRunningSlot, IsFlyingSlot, IsAfter, standing_of, grant_by}
 use Rattle.job_slots.proofs.Begins.{early_end_when}
 use Rattle.job_slots.proofs.Executed.{asked_is}
 use Rattle.job_slots.proofs.Slots.{live as live_slot, recalled_is_shown}
@@ -71,50 +63,11 @@ fault_ends others_are_ready end_is_own slots task t question fault line verified
     let same = asked_is task t.executed s ready.call ready.outer question run.running ready.calls asked in
     let line_same = line_is task t.executed s ready.call ready.outer line run.running ready.calls at in
     let item = (next_item ready.call).item in
-    let calls = calls_after task.verified (flag_of (question_of item s.stack)) ready.call.rest ready.call.ret
-    ready.outer in
-    let here : value_fault (op_of item) (sources_of item s.stack) ≡ Some fault =
-    ap (λ (q : Question). value_fault q.op q.sources) same ∙ faulty in
-    let over : state_after task (t.executed + 1) ≡ Over (Fault fault line) s.executed s.peak = ready.next
-    ∙ ap (λ (o : Option DataFault). progress_by task.rule o (next_item ready.call) s calls) here
-    ∙ ap (λ (l : ℕ). Over (Fault fault l) s.executed s.peak) line_same in
+    let here : value_fault (op_of item) (sources_of item s.stack) ≡ Some fault = rw (← same) at faulty in
+    let over : state_after task (t.executed + 1) ≡ Over (Fault fault line) s.executed s.peak =
+    rw (ready.next, here, line_same) in
     let own = end_is_own task (t.executed + 1) (Fault fault line) s.executed s.peak over in
     grind arith
-
--- ---- an instruction
-
-no_calls : (fs : List Function) (frames : List Frame) (calls : List Active) → frames ≡ [] → StandAll fs frames calls →
-    calls ≡ []
-no_calls fs frames calls none stand = grind arith
-
--- the job runs on
-record RunsOn (slots : List Slot) (task : Task) (u : TrackState ℕ) (n : ℕ) (p : Progress) : Type 0 where
-  running : IsRunningSlot slots task u
-  executed : u.executed ≡ n + 1
-  standing : standing_after (n + 1) p ≡ Live (n + 1)
-
-runs_on : Reaches → (signatures : List Signature) (slots : List Slot) (task : Task) (u : TrackState ℕ) (n : ℕ)
-    (p : Progress) → IsVerifiedTask signatures task → state_after task (n + 1) ≡ p → IsAfter slots task u p →
-    0 < length u.frames → RunsOn slots task u n p
-runs_on reaches signatures slots task u n (Running s) verified e after some =
-    let count = after.0.executed ∙ (reaches signatures task verified (n + 1) s e).count in
-    grind arith
-runs_on reaches signatures slots task u n (Over ending executed peak) verified e after some = grind arith
-runs_on reaches signatures slots task u n Stuck verified e after some = absurd after
-
--- the job has returned
-record Returns (slots : List Slot) (task : Task) (u : TrackState ℕ) (n : ℕ) (p : Progress) : Type 0 where
-  ended : HasEnded slots task u None
-  standing : standing_after (n + 1) p ≡ Ended
-
-returned : Reaches → EndIsOwn → (signatures : List Signature) (slots : List Slot) (task : Task) (u : TrackState ℕ)
-    (n : ℕ) (p : Progress) → IsVerifiedTask signatures task → state_after task (n + 1) ≡ p → IsAfter slots task u p →
-    u.frames ≡ [] → Returns slots task u n p
-returned reaches end_is_own signatures slots task u n (Running s) verified e after none =
-    let calls = no_calls (functions_of task.verified) u.frames s.calls none after.0.frames in
-    absurd (omega (arith, (reaches signatures task verified (n + 1) s e).active, ap length calls))
-returned reaches end_is_own signatures slots task u n (Over ending count most) verified e after none = grind arith
-returned reaches end_is_own signatures slots task u n Stuck verified e after none = absurd after
 
 -- ---- an instruction that was executed
 
@@ -145,26 +98,29 @@ module _ (reaches : Reaches) (end_is_own : EndIsOwn) (number : ℕ) (task : Task
       after_both number task (Live n) (InFlight n) (standing_after (n + 1) (state_after task (n + 1)))
       (next_by number task n run.state None run.running goes_on) refl
 
-  abbrev shown : Status → Option (Outcome (List Vector)) → SlotState
-  shown by outcome = record { status = by; trace = mid.trace; outcome = outcome }
-
-  takes_step : (on : Bool) (by : Status) (outcome : Option (Outcome (List Vector))) (last : SlotState) →
-      last ≡ shown by outcome → grant_of new number ≡ grant_by task by →
-      ShowsAs (own_slots number new) task mid.trace outcome by →
-      standing_of (shown by outcome) ≡ standing_after (n + 1) (state_after task (n + 1)) →
-      on ≡ is_live (standing_of (shown by outcome)) → TakesStep number task n old last new on
-  takes_step on by outcome last is grant_is shown_as stands answer = grind (arith, next, grant, shown)
+  -- whichever state the job is at then
+  steps : (p : Progress) → state_after task (n + 1) ≡ p → IsAfter (own_slots number new) task mid.trace p → (on : Bool)
+      (last : SlotState) → GoesOn mid last on → TakesStep number task n old last new on
+  steps (Running s) e after true last goes =
+      let is = reaches _ task can.shows.verified.1 (n + 1) s e in
+      let count : mid.trace.executed ≡ n + 1 = after.0.executed ∙ is.count in
+      let done = goes.still refl in
+      grind (arith, next, grant)
+  steps (Running s) e after false last goes =
+      let none = (goes.ended refl).0 in
+      let is = reaches _ task can.shows.verified.1 (n + 1) s e in
+      absurd (grind arith)
+  steps (Over ending count most) e after true last goes =
+      let some = (goes.still refl).0 in
+      grind arith
+  steps (Over ending count most) e after false last goes =
+      let done = goes.ended refl in
+      let own = end_is_own task (n + 1) ending count most e in
+      grind (arith, next, grant)
+  steps Stuck e after on last goes = absurd after
 
   pub took : (on : Bool) (last : SlotState) → GoesOn mid last on → TakesStep number task n old last new on
-  took true last goes =
-      let done = goes.still refl in
-      let on = runs_on reaches _ _ _ _ n _ can.shows.verified.1 refl executed.after done.0 in
-      takes_step _ _ _ _ (done.1 ∙ ap (λ (s : Status). shown s mid.outcome) live) grant on.running
-      (ap Live on.executed ∙ sym on.standing) refl
-  took false last goes =
-      let done = goes.ended refl in
-      let over = returned reaches end_is_own _ _ _ _ n _ can.shows.verified.1 refl executed.after done.0 in
-      takes_step _ _ _ _ done.1 grant over.ended (sym over.standing) refl
+  took on last goes = steps _ refl executed.after on last goes
 
 -- ---- a commit
 
@@ -187,14 +143,10 @@ pub fault_commits : OthersAreReady → EndIsOwn → (number : ℕ) (blocks : Job
     FaultCommits number task slot fault line
 fault_commits others_are_ready end_is_own number blocks task slot filled inside fault line shows flying fits same faulty
     at =
-    let step = step_is slot filled.step flying fits.flying in
-    let asked : question_at task slot.trace.executed ≡ Some filled.question = ap (question_at task) step
-    ∙ fits.question in
-    let here : line_at task slot.trace.executed ≡ Some line =
-    subst (λ (t : TrackState ℕ). line_at task t.executed ≡ Some line) same at in
     let shown = flying_shown number blocks task slot shows flying in
     let ends = fault_ends others_are_ready end_is_own (own_slots number blocks) task slot.trace filled.question fault
-    line shows.verified shown.run shown.goes_on asked faulty here in
+    line shows.verified shown.run shown.goes_on (rw (step_is slot filled.step flying fits.flying) fits.question) faulty
+    (rw same at at) in
     grind (arith, next_is)
 
 -- an instruction was executed on the track that the slot has inside
@@ -212,7 +164,7 @@ module _ (number : ℕ) (task : Task) (slot : SlotState) (blocks : JobBlocks) (s
   can_step numbers = grind (arith, recalled_is_shown, flying_shown)
 
   pub goes_on_flying : early_end_at task slot.trace.executed ≡ None
-  goes_on_flying = grind (arith, shown, flying_shown, early_end_when)
+  goes_on_flying = grind (arith, flying_shown, early_end_when)
 
   -- which is what a finish does
   pub finish_leads : (new : JobBlocks) (last : SlotState) (on : Bool) →

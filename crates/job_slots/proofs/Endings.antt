@@ -1,11 +1,10 @@
 -- The state in which a job returns.
-use Rattle.std.proofs.Common.{◌≡◌, ℕ, zero, suc, ◌+◌, ◌≤◌, Bool, cond, eqb, List, [], ◌∷◌, Option, length, refl, ◌∙◌}
-use Rattle.std.proofs.Common.{ap, arith}
+use Rattle.std.proofs.Common.{◌≡◌, ℕ, zero, suc, ◌+◌, ◌≤◌, Bool, cond, eqb, List, [], ◌∷◌, Option, length, refl, ap}
+use Rattle.std.proofs.Common.{arith}
 use Rattle.std.specs.Prelude.{reverse}
 use Rattle.std.proofs.lemmas.List.{length-reverse, length-map}
 use Rattle.vcode_base.specs.declared.fault.DataFault.{DataFault}
 use Rattle.vcode_base.specs.declared.fault.MemoryFault.{MemoryFault}
-use Rattle.vcode_base.specs.declared.outcome.Outcome.{Outcome}
 use Rattle.vcode_base.specs.declared.outcome.Outcome.TheVariants.{Returned, Budget}
 use Rattle.vcode_base.specs.declared.rule.Rule.{Rule}
 use Rattle.vcode_reader.specs.declared.line.Numbered.{Numbered}
@@ -75,11 +74,8 @@ over_at ends signatures task verified = (ends signatures task verified).over
 pub few_results : Reaches → EachEnds → (signatures : List Signature) (task : Task) → IsVerifiedTask signatures task →
     (stack : List StackEntry) → outcome task ≡ Returned (reverse (values_of stack)) → length stack ≤ task.limits.cells
 few_results reached ends signatures task verified stack is =
-    let over = over_at ends signatures task verified
-    ∙ ap (λ (ending : Outcome (List Vector)). Over ending (executed_count task) (peak task)) is in
+    let over = rw is at (over_at ends signatures task verified) in
     let last = last_stack task (task.limits.budget + 1) (reverse (values_of stack)) (executed_count task) (peak task)
     over in
     let within = (reached signatures task verified last.n last.state last.running).cells in
-    let same : length (reverse (values_of last.state.stack)) ≡ length (reverse (values_of stack)) =
-    ap length last.values_are in
-    grind (arith, length-reverse, length-map)
+    omega (arith, simp (length-reverse, length-map) at (ap length last.values_are))

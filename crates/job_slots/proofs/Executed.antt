@@ -1,13 +1,13 @@
 -- The result of executing the next instruction of a job whose step is in flight.
-use Rattle.std.proofs.Common.{◌≡◌, ◌∙◌, ◌+◌, ◌-◌, ◌^◌, ◌<◌, ◌≤◌, ℕ, ℤ, Bool, List, [], ◌∷◌, length, map, take, drop}
-use Rattle.std.proofs.Common.{Option, Some, None, sym, ap, subst, arith, length-take, length-drop}
+use Rattle.std.proofs.Common.{◌≡◌, ◌∙◌, ◌+◌, ◌^◌, ◌<◌, ◌≤◌, ℕ, ℤ, Bool, List, [], ◌∷◌, length, Some, None, get_or, sym}
+use Rattle.std.proofs.Common.{ap, arith, length-take, length-drop}
 use Rattle.std.specs.Prelude.{All}
-use Rattle.std.proofs.lemmas.List.{length-reverse}
-use Rattle.std.proofs.lemmas.List.Elements.{All-nil, All-cons, All-head, All-tail, All-weaker, All-take, All-drop}
+use Rattle.std.proofs.lemmas.List.{get_or-map, length-map, length-reverse}
+use Rattle.std.proofs.lemmas.List.Elements.{All-take, All-drop}
 use Rattle.std.proofs.lemmas.List.Sums.{count_by-le-length}
 use Rattle.vcode_base.specs.declared.op.Op.{Op}
-use Rattle.vcode_base.specs.declared.op.Op.TheVariants.{Return}
-use Rattle.vcode_base.specs.declared.fault.DataFault.{DataFault}
+use Rattle.vcode_base.specs.declared.op.Op.TheVariants.{Move, Return}
+use Rattle.vcode_base.specs.declared.op.StackMove.TheVariants.{Copy}
 use Rattle.vcode_base.specs.declared.rule.Rule.{Rule}
 use Rattle.vcode_base.specs.Instructions.{op_of}
 use Rattle.vcode_base.specs.Kinds.{result_kinds}
@@ -15,7 +15,7 @@ use Rattle.vcode_base.specs.Laws.{ResultsHaveNeededLengths}
 use Rattle.vcode_base.specs.Meaning.{result_of, second_result_of, value_fault}
 use Rattle.vcode_reader.specs.Trees.{Item}
 use Rattle.signatures.specs.Signatures.{Signature}
-use Rattle.refcounts.specs.SharedState.{Slot, slot_in, slot_at, occurrences, IsTidy}
+use Rattle.refcounts.specs.SharedState.{Slot, occurrences, IsTidy}
 use Rattle.job_memory.specs.JobBlocks.{JobBlocks, own_slots}
 use Rattle.job_steps.specs.EventLaws.{OthersAreReady}
 use Rattle.job_steps.specs.Events.{early_end}
@@ -23,24 +23,26 @@ use Rattle.job_steps.specs.Motions.{stack_after}
 use Rattle.job_steps.specs.Questions.{Question, need_words}
 use Rattle.job_steps.specs.Reached.{Reaches, IsReached, IsVerifiedTask}
 use Rattle.job_steps.specs.Runs.{state_after}
-use Rattle.job_steps.specs.States.{Vector, Task, StackEntry, Active, State, new_entries}
+use Rattle.job_steps.specs.States.{Task, Active, State, new_entries}
 use Rattle.job_steps.specs.StepLaws.{CanAdvance, StepsCanAdvance}
 use Rattle.job_steps.specs.Steps.{Running, next_item, sources_of, question_of, results_of, flag_of, words_at}
 use Rattle.job_steps.specs.Steps.{calls_after, progress_by, progress_past, vectors_of}
 use Rattle.job_steps.specs.Tickets.{AreResults}
-use Rattle.job_steps.specs.Tracks.{TrackState, IsAt, IsDeep, IsWhere, Advances, EachTrackFollows}
+use Rattle.job_steps.specs.Tracks.{TrackState, IsAt, IsWhere, Advances, EachTrackFollows}
 use Rattle.job_slots.specs.Answers.{question_at}
 use Rattle.job_slots.specs.Commits.{held_under, moved_ids}
-use Rattle.job_slots.specs.Executions.{AreFew, CanShare, CanSettle, CanGoPast, HasSettled, IsCounted, IsExecuted}
-use Rattle.job_slots.specs.Executions.{CanExecute, StepsExecute}
-use Rattle.job_slots.specs.Holdings.{Cell, ids_of, entries_of, AreHeld, HoldStack}
+use Rattle.job_slots.specs.Executions.{AreFew, CanShare, CanSettle, HasSettled, IsCounted, IsExecuted, CanExecute}
+use Rattle.job_slots.specs.Executions.{StepsExecute}
+use Rattle.job_slots.specs.Holdings.{Cell, ids_of, AreHeld, HoldStack}
 use Rattle.job_slots.specs.Slots.{IsAfter}
-use Rattle.job_slots.proofs.Commits.{BlockLaws, IsCommitted, can_commit, committed}
-use Rattle.job_slots.proofs.Exchanges.{listed}
-use Rattle.job_slots.proofs.Placed.{AreCommitted, NewCells, new_cells}
+use Rattle.job_slots.proofs.Commits.{can_commit, placed_by}
+use Rattle.job_slots.proofs.Holding.{listed}
+use Rattle.job_slots.proofs.Moves.{map-stack_after}
+use Rattle.job_slots.proofs.Takes.{BlockLaws, IsPlaced}
+use Rattle.job_slots.proofs.Placed.{NewCells, new_cells}
 use Rattle.job_slots.proofs.Instructions.{two_results, length_by_kinds, return_leaves}
 use Rattle.job_slots.proofs.Reversed.{All-reverse}
-use Rattle.job_slots.proofs.Seen.{count_seen}
+use Rattle.job_slots.proofs.Seen.{seen_there}
 use Rattle.job_slots.proofs.Under.{held_is_counted}
 
 -- the laws of steps and of blocks
@@ -52,46 +54,27 @@ pub record Laws : Type 0 where
   pub results_have_needed_lengths : ResultsHaveNeededLengths
   pub blocks : BlockLaws
 
--- ---- lists
-
-All-of_map : {E F : Type 0} (P : F → Type 0) (f : E → F) (xs : List E) → All P (map f xs) → All (λ x. P (f x)) xs
-All-of_map P f [] all = All-nil (λ x. P (f x))
-All-of_map P f (x ∷ xs) all =
-    All-cons (λ y. P (f y)) x xs (All-head P (f x) (map f xs) all) (All-of_map P f xs (All-tail P (f x) (map f xs) all))
-
 -- ---- what is copied
 
--- the blocks of cells that are held have as few references as there are cells
-few_held : (job : ℕ) (old : JobBlocks) (cells : List Cell) → AreHeld (own_slots job old) cells →
-    length (ids_of cells) + length (ids_of cells) < 2 ^ 64 → AreFew old (ids_of cells)
-few_held job old cells held small =
-    All-weaker (λ id. 0 < occurrences id (ids_of cells))
-    (λ id. (slot_at old.memory id).count + length (ids_of cells) < 2 ^ 64)
-    (λ id some. let own : (slot_in (own_slots job old) id).count ≡ occurrences id (ids_of cells) = held.counts id in
-    let seen : (slot_at old.memory id).count ≡ (slot_in (own_slots job old) id).count =
-    count_seen job old.memory id (omega (arith, own, some)) in
-    let most : occurrences id (ids_of cells) ≤ length (ids_of cells) = count_by-le-length _ (ids_of cells) in
-    omega (arith, own, seen, most, small)) (ids_of cells) (listed (ids_of cells) (ids_of cells) (λ id. omega arith))
+-- the blocks that a motion copies have as few references as there are cells
+few_moved : (job : ℕ) (old : JobBlocks) (cells : List Cell) → AreHeld (own_slots job old) cells →
+    length (ids_of cells) + length (ids_of cells) < 2 ^ 64 → (lower upper : ℕ) →
+    AreFew old (moved_ids lower upper (ids_of cells))
+few_moved job old cells held small lower upper k d below =
+    let ids = ids_of cells in
+    let id = get_or (moved_ids lower upper ids) k d in
+    let P : ℕ → Type 0 = λ id. 0 < occurrences id ids in
+    let some = All-reverse P _ (All-take P lower _ (All-drop P upper ids (listed ids))) k d below in
+    let seen = ap (λ (slot : Slot). slot.count) (seen_there job old.memory id (omega (arith, held.counts id, some))) in
+    let most : occurrences id ids ≤ length ids = count_by-le-length _ ids in
+    let part : length (moved_ids lower upper ids) ≤ length ids = simp (length-reverse, length-take, length-drop)
+    (omega arith) in
+    omega (arith, held.counts id, seen, most, part, small)
 
-few_moved : (lower upper : ℕ) (ids : List ℕ) (blocks : JobBlocks) → AreFew blocks ids →
-    AreFew blocks (moved_ids lower upper ids)
-few_moved lower upper ids blocks few =
-    let part : length (moved_ids lower upper ids) ≤ length ids =
-    omega (
-      arith,
-      length-reverse (take lower (drop upper ids)),
-      length-take lower (drop upper ids),
-      length-drop upper ids,
-    ) in
-    All-weaker (λ id. (slot_at blocks.memory id).count + length ids < 2 ^ 64)
-    (λ id. (slot_at blocks.memory id).count + length (moved_ids lower upper ids) < 2 ^ 64) (λ id here. omega arith)
-    (moved_ids lower upper ids)
-    (All-reverse (λ id. (slot_at blocks.memory id).count + length ids < 2 ^ 64) (take lower (drop upper ids))
-    (All-take (λ id. (slot_at blocks.memory id).count + length ids < 2 ^ 64) lower (drop upper ids)
-    (All-drop (λ id. (slot_at blocks.memory id).count + length ids < 2 ^ 64) upper ids few)))
-
-share_room : (op : Op) (cells : List ℕ) (blocks : JobBlocks) → AreFew blocks cells → CanShare op cells blocks
-share_room op cells blocks few = grind (arith, few_moved)
+share_room : (job : ℕ) (old : JobBlocks) (cells : List Cell) → AreHeld (own_slots job old) cells →
+    length (ids_of cells) + length (ids_of cells) < 2 ^ 64 → (op : Op) → CanShare op (ids_of cells) old
+share_room job old cells held small (Move Copy lower upper) = few_moved job old cells held small lower upper
+share_room job old cells held small op = tt
 
 -- ---- the state of the job
 
@@ -118,7 +101,10 @@ module _ (laws : Laws) (signatures : List Signature) (task : Task) (verified : I
     (running : state_after task t.executed ≡ Running s) (at : IsAt task t s)
     (holds : HoldStack (own_slots job old) t.cells s.stack) (early : early_end task s ≡ None)
     (tidy : IsTidy old.memory) (call : Active) (outer : List Active) (calls : s.calls ≡ call ∷ outer)
-    (first second : List ℤ) (results : AreResults (question_of (next_item call).item s.stack) first second) where
+    (first second : List ℤ) (results : AreResults (question_of (next_item call).item s.stack) first second)
+    (next : state_after task (t.executed + 1) ≡ progress_by task.rule
+    (value_fault (op_of (next_item call).item) (sources_of (next_item call).item s.stack)) (next_item call) s
+    (calls_after task.verified (flag_of (question_of (next_item call).item s.stack)) call.rest call.ret outer)) where
   abbrev item : Item
   item = (next_item call).item
 
@@ -149,93 +135,70 @@ module _ (laws : Laws) (signatures : List Signature) (task : Task) (verified : I
       omega (arith, needed, counted.held, ap length results.first_result, ap length results.second_result)
 
   tags : All (λ c. c.entry.tag < s.next) holds.cells
-  tags =
-      All-of_map (λ (e : StackEntry). e.tag < s.next) (λ c. c.entry) holds.cells
-      (subst (All (λ (e : StackEntry). e.tag < s.next)) holds.entries_are is_reached.tags)
+  tags k d below =
+      let count = ap length holds.entries_are in
+      rw (← get_or-map (λ (c : Cell). c.entry) holds.cells k d d.entry below, ← holds.entries_are)
+      (is_reached.tags k d.entry (omega (arith, count, length-map holds.cells (λ (c : Cell). c.entry), below)))
 
   -- the results as entries
   values_are : vectors_of (result_kinds op) (first ∷ second ∷ []) ≡ results_of (question_of item s.stack)
   values_are = grind (arith, op, item)
 
-  goes_past : CanGoPast task.verified t op
-  goes_past = record { unspent = can.unspent; deep = can.deep; cells = can.cells; follows = can.follows }
-
   can_settle : CanSettle job op t.cells old
   can_settle =
-      let listed_are : length t.cells ≡ length (ids_of holds.cells) = ap length holds.ids_are in
-      let few : AreFew old (ids_of holds.cells) =
-      few_held job old holds.cells holds.held
-      (omega (arith, at.cells, listed_are, is_reached.cells, task.limits.cells_in_range.1)) in
+      let n = length (ids_of holds.cells) in
+      let small : n + n < 2 ^ 64 =
+      omega (arith, at.cells, ap length holds.ids_are, is_reached.cells, task.limits.cells_in_range.1) in
       record {
         deep = can.deep;
         own = counted.own;
         can_take = rw holds.ids_are (can_commit laws.blocks job old holds.cells holds.held op).can_take;
-        can_share = share_room op t.cells old (subst (AreFew old) (sym holds.ids_are) few);
+        can_share = rw holds.ids_are (share_room job old holds.cells holds.held small op);
       }
 
-  module _ (form : Rule) (ids : List ℕ) (new : JobBlocks) (has : HasSettled form job op first second t.cells ids old
-      new) where
+  module _ (form : Rule) (ids : List ℕ) (new : JobBlocks) (u : TrackState ℕ)
+      (has : HasSettled form job op first second t.cells ids old new)
+      (advances : Advances task.verified op flag ids
+      (held_under task.rule job op t.cells old + length first + length second) t u) where
     made : NewCells form job op t.cells ids s.next (vectors_of (result_kinds op) (first ∷ second ∷ [])) old new
     made = grind (arith, new_cells, op, two_results)
 
-    commits : IsCommitted job op old new holds.cells made.cells
+    commits : IsPlaced job old new (stack_after op made.cells holds.cells)
     commits =
-        committed laws.blocks form job op old new holds.cells made.cells s.next
+        placed_by laws.blocks form job op old new holds.cells made.cells s.next
         (vectors_of (result_kinds op) (first ∷ second ∷ [])) holds.held tags made.entries_are (made.count ∙ has.given)
-        (subst (λ (xs : List ℕ). AreCommitted form job op xs made.cells old new) holds.ids_are made.are_committed)
+        (rw (← holds.ids_are) made.are_committed)
 
-    module _ (u : TrackState ℕ)
-        (advances : Advances task.verified op flag ids
-        (held_under task.rule job op t.cells old + length first + length second) t u) where
-      now_holds : HoldStack (own_slots job new) u.cells
-          (stack_after op (new_entries s.next (results_of (question_of item s.stack))) s.stack)
-      now_holds = record {
-        cells = stack_after op made.cells holds.cells;
-        ids_are =
-            advances.cells
-            ∙ ap (λ (xs : List ℕ). stack_after op ids xs) holds.ids_are
-            ∙ ap (λ (xs : List ℕ). stack_after op xs (ids_of holds.cells)) (sym made.ids_are)
-            ∙ sym commits.ids;
-        entries_are =
-            ap (λ (vs : List Vector). stack_after op (new_entries s.next vs) s.stack) (sym values_are)
-            ∙ ap (λ (es : List StackEntry). stack_after op es s.stack) (sym made.entries_are)
-            ∙ ap (λ (es : List StackEntry). stack_after op (entries_of made.cells) es) holds.entries_are
-            ∙ sym commits.entries;
-        held = commits.held;
-      }
+    now_holds : HoldStack (own_slots job new) u.cells
+        (stack_after op (new_entries s.next (results_of (question_of item s.stack))) s.stack)
+    now_holds = record {
+      cells = stack_after op made.cells holds.cells;
+      ids_are =
+          advances.cells ∙ sym (map-stack_after (λ (c : Cell). c.id) op made.cells holds.cells
+          ∙ cc (made.ids_are, holds.ids_are));
+      entries_are = sym (map-stack_after (λ (c : Cell). c.entry) op made.cells holds.cells
+          ∙ cc (made.entries_are, holds.entries_are, values_are));
+      held = commits.held;
+    }
 
-      where_is : IsWhere task u (progress_past task.rule item s
-          (calls_after task.verified flag call.rest call.ret outer))
-      where_is =
-          laws.each_track_follows task t u s call outer ids at calls (subst (IsDeep op) at.cells can.deep) has.given
-          (subst (λ (w : ℕ). Advances task.verified op flag ids w t u) (sym words_are) advances)
+    executed : IsExecuted job old new task t u
+    executed =
+        let where_is = laws.each_track_follows task t u s call outer ids at calls (rw at.cells at can.deep) has.given
+        (rw words_are advances) in
+        record {
+          after = rw (next, results.no_fault) (is_after (own_slots job new) task u item s _
+              (ap (state_after task) (sym at.executed) ∙ running)
+              (return_leaves task.verified flag call.rest call.ret outer) where_is now_holds);
+          others = commits.others;
+        }
 
-      executed : state_after task (t.executed + 1) ≡ progress_by task.rule (value_fault op (sources_of item s.stack))
-          (next_item call) s (calls_after task.verified flag call.rest call.ret outer) → IsExecuted job old new task t u
-      executed next =
-          let past : state_after task (t.executed + 1)
-          ≡ progress_past task.rule item s (calls_after task.verified flag call.rest call.ret outer) =
-          next ∙ ap (λ (o : Option DataFault). progress_by task.rule o (next_item call) s
-          (calls_after task.verified flag call.rest call.ret outer)) results.no_fault in
-          record {
-            after =
-                subst (IsAfter (own_slots job new) task u) (sym past)
-                (is_after (own_slots job new) task u item s
-                (calls_after task.verified flag call.rest call.ret outer)
-                (ap (state_after task) (sym at.executed) ∙ running)
-                (return_leaves task.verified flag call.rest call.ret outer) where_is now_holds);
-            others = commits.others;
-          }
-
-  can_execute : state_after task (t.executed + 1)
-      ≡ progress_by task.rule (value_fault op (sources_of item s.stack)) (next_item call) s
-      (calls_after task.verified flag call.rest call.ret outer) → CanExecute job old task t op flag first second
-  can_execute next = record {
+  can_execute : CanExecute job old task t op flag first second
+  can_execute = record {
     two = two_results op;
     room = omega (arith, can.room, words_are);
     can_settle = can_settle;
-    goes_past = goes_past;
-    executes = λ form ids new u has advances. executed form ids new has u advances next;
+    goes_past = record { unspent = can.unspent; deep = can.deep; cells = can.cells; follows = can.follows };
+    executes = executed;
   }
 
 pub executable : Laws → StepsExecute
@@ -245,15 +208,11 @@ executable laws job old task t op flag first second flying verified tidy answere
     let same = asked_is _ _ _ _ _ _ run.running ready.calls answered.asked in
     let found = can_execute laws verified.0 task verified.1 job old t run.state run.running run.at run.holds
     flying.goes_on tidy ready.call ready.outer ready.calls first second (rw same answered.results) ready.next in
-    let item = (next_item ready.call).item in
-    let op_is : op_of item ≡ op = ap (λ (q : Question). q.op) same ∙ sym answered.op_is in
-    let flag_is : flag_of (question_of item run.state.stack) ≡ flag = ap flag_of same ∙ sym answered.flag_is in
-    rw (← op_is) (rw (← flag_is) found)
+    rw (answered.op_is, answered.flag_is, ← same) found
 
 -- the instruction is executed if blocks have its results and the track went past it
 pub executed_past : {job : ℕ} {old new : JobBlocks} {task : Task} {t u : TrackState ℕ} {op : Op} {flag : Bool}
     {first second : List ℤ} {form : Rule} {ids : List ℕ} {held : ℕ} → CanExecute job old task t op flag first second →
     HasSettled form job op first second t.cells ids old new → held ≡ held_under task.rule job op t.cells old →
     Advances task.verified op flag ids (held + length first + length second) t u → IsExecuted job old new task t u
-executed_past {job} {old} {new} {task} {t} {u} {op} {flag} {first} {second} {form} {ids} can has held_is advances =
-    can.executes form ids new u has (rw (← held_is) advances)
+executed_past can has held_is advances = can.executes _ _ _ _ has (rw (← held_is) advances)

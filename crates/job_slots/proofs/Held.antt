@@ -1,56 +1,43 @@
 -- What holds of the blocks that hold a stack.
-use Rattle.std.proofs.Common.{◌≡◌, ℕ, ◌<◌, true, false, cond, eqb, List, [], ◌∷◌, map, refl, sym, ◌∙◌, ap, arith}
+use Rattle.std.proofs.Common.{◌≡◌, ℕ, suc, List, [], ◌∷◌, get_or, map, refl, sym, ◌∙◌, ap, arith}
 use Rattle.std.specs.Prelude.{All}
-use Rattle.std.proofs.lemmas.List.Elements.{All-nil, All-cons, All-head, All-tail}
-use Rattle.refcounts.specs.SharedState.{Slot, SharedState, empty_slot, slot_in, slot_at, occurrences, IsLive, AreLive}
-use Rattle.refcounts.specs.Owners.{slot_seen_by, slots_seen_by}
+use Rattle.std.proofs.lemmas.List.Elements.{All-map}
+use Rattle.refcounts.specs.SharedState.{Slot, SharedState, slot_at, IsLive, AreLive}
+use Rattle.refcounts.specs.Owners.{slots_seen_by}
 use Rattle.job_steps.specs.States.{StackEntry, words_of}
-use Rattle.job_slots.specs.Holdings.{Cell, ids_of, entries_of, HoldStack}
-use Rattle.job_slots.proofs.Holding.{named_here, named_more}
+use Rattle.job_slots.specs.Holdings.{Cell, ids_of, entries_of, AreHeld, HoldStack}
+use Rattle.job_slots.proofs.Holding.{each_named}
+use Rattle.job_slots.proofs.Seen.{seen_there}
 
--- the slot of a number as an owner sees it
-seen_at : (job : ℕ) (slots : List Slot) (id : ℕ) →
-    slot_in (map (slot_seen_by job) slots) id ≡ slot_seen_by job (slot_in slots id)
-seen_at job [] id = elim (eqb 0 job) as (λ b. empty_slot ≡ cond b empty_slot empty_slot) [ true ↦ refl | false ↦ refl ]
-seen_at job (slot ∷ slots) id = grind (arith, (seen_at job slots))
+-- the cell's block is there, with the words of its entry
+abbrev pub IsThere : SharedState → Cell → Type 0
+IsThere memory c = IsLive memory c.id × ((slot_at memory c.id).words ≡ c.entry.value.words)
 
--- a block that an owner sees is there, with its words
-record IsSeen (memory : SharedState) (slot : Slot) (id : ℕ) : Type 0 where
-  live : IsLive memory id
-  same : slot ≡ slot_at memory id
-
-seen : (job : ℕ) (memory : SharedState) (id : ℕ) → 0 < (slot_in (slots_seen_by job memory) id).count →
-    IsSeen memory (slot_in (slots_seen_by job memory) id) id
-seen job memory id h = grind (arith, seen_at, slot_at)
+pub each_there : (job : ℕ) (memory : SharedState) (cells : List Cell) → AreHeld (slots_seen_by job memory) cells →
+    All (IsThere memory) cells
+each_there job memory cells held k d below =
+    let id = (get_or cells k d).id in
+    let there = seen_there job memory id (omega (arith, each_named cells k d below, held.counts id)) in
+    let count = ap (λ (s : Slot). s.count) there in
+    let words = ap (λ (s : Slot). s.words) (sym there) ∙ held.words k d below in
+    (omega (arith, each_named cells k d below, held.counts id, count), words)
 
 -- the blocks of cells that hold entries are there, with the entries' words
 pub record AreThere (memory : SharedState) (ids : List ℕ) (stack : List StackEntry) : Type 0 where
   pub live : AreLive memory ids
   pub lists : map (λ id. (slot_at memory id).words) ids ≡ words_of stack
 
--- the cell's block has the words of its entry
-abbrev HasWords : ℕ → SharedState → Cell → Type 0
-HasWords job memory c = (slot_in (slots_seen_by job memory) c.id).words ≡ c.entry.value.words
-
-there : (job : ℕ) (memory : SharedState) (cells : List Cell) → All (HasWords job memory) cells →
-    ((id : ℕ) → 0 < occurrences id (ids_of cells) → 0 < (slot_in (slots_seen_by job memory) id).count) →
-    AreThere memory (ids_of cells) (entries_of cells)
-there job memory [] words counts = record { live = All-nil (λ id. IsLive memory id); lists = refl }
-there job memory (c ∷ cells) words counts =
-    let first = seen job memory c.id (counts c.id (omega (arith, named_here c.id (ids_of cells)))) in
-    let rest = there job memory cells (All-tail (HasWords job memory) c cells words)
-    (λ id h. counts id (omega (arith, named_more id c.id (ids_of cells)))) in
-    let own : (slot_in (slots_seen_by job memory) c.id).words ≡ c.entry.value.words =
-    All-head (HasWords job memory) c cells words in
-    let here : (slot_at memory c.id).words ≡ c.entry.value.words = ap (λ (s : Slot). s.words) (sym first.same) ∙ own in
-    record {
-      live = All-cons (λ id. IsLive memory id) c.id (ids_of cells) first.live rest.live;
-      lists = cc (here, rest.lists);
-    }
+lists_of : (memory : SharedState) (cells : List Cell) → All (IsThere memory) cells →
+    map (λ id. (slot_at memory id).words) (ids_of cells) ≡ words_of (entries_of cells)
+lists_of memory [] there = refl
+lists_of memory (c ∷ cells) there =
+    cc ((there 0 c (omega arith)).1, lists_of memory cells (λ k d below. there (suc k) d (omega (arith, below))))
 
 pub are_there : (job : ℕ) (memory : SharedState) (ids : List ℕ) (stack : List StackEntry) →
     HoldStack (slots_seen_by job memory) ids stack → AreThere memory ids stack
 are_there job memory ids stack h =
-    let positive : (id : ℕ) → 0 < occurrences id (ids_of h.cells) → 0 < (slot_in (slots_seen_by job memory) id).count =
-    λ id some. omega (arith, h.held.counts id) in
-    rw (h.ids_are, h.entries_are) (there job memory h.cells h.held.words positive)
+    let there = each_there job memory h.cells h.held in
+    rw (h.ids_are, h.entries_are) (record {
+      live = All-map (λ id. IsLive memory id) (λ (c : Cell). c.id) h.cells (λ k d below. (there k d below).0);
+      lists = lists_of memory h.cells there;
+    })

@@ -1,6 +1,6 @@
 -- The operands of an instruction whose results are computed where they are placed.
-use Rattle.std.proofs.Common.{◌≡◌, ℕ, ℤ, ◌+◌, ◌<◌, ◌≤◌, Bool, false, List, [], ◌∷◌, length, Some, None, sym, ◌∙◌, ap}
-use Rattle.std.proofs.Common.{subst, arith, map, get_or}
+use Rattle.std.proofs.Common.{◌≡◌, ℕ, ℤ, ◌+◌, ◌<◌, ◌≤◌, Bool, false, List, [], ◌∷◌, length, None, sym, ◌∙◌, ap}
+use Rattle.std.proofs.Common.{arith, map, get_or}
 use Rattle.std.specs.Prelude.{slice_index_or}
 use Rattle.std.proofs.lemmas.List.{get_or_default, length-map}
 use Rattle.std.proofs.Math.ListN.{get_or-map}
@@ -24,7 +24,7 @@ use Rattle.job_steps.specs.EventLaws.{IsVerified}
 use Rattle.job_steps.specs.Questions.{Question}
 use Rattle.job_steps.specs.States.{Task}
 use Rattle.job_steps.specs.StepLaws.{CanBegin, StepsCanBegin}
-use Rattle.job_steps.specs.Steps.{next_item, question_of, sources_of, flag_of}
+use Rattle.job_steps.specs.Steps.{next_item, question_of, flag_of}
 use Rattle.job_steps.specs.Tickets.{AreResults, question_by}
 use Rattle.job_steps.specs.Tracks.{TrackState}
 use Rattle.job_slots.specs.Answers.{IsNext}
@@ -42,8 +42,7 @@ use Rattle.job_slots.proofs.Seen.{adds_block}
 
 module _ (law : StepsCanBegin ℕ) (counted : HeldIsCounted) (job : ℕ) (blocks : JobBlocks) (task : Task)
     (t : TrackState ℕ) (run : IsRunningSlot (own_slots job blocks) task t) (verified : IsVerified task)
-    (op : Op) (line : ℕ)
-    (sources : List (List ℤ)) (next : IsNext task t.executed op line sources) (reads : is_constant op ≡ false)
+    (op : Op) (sources : List (List ℤ)) (next : IsNext task t.executed op sources) (reads : is_constant op ≡ false)
     (tidy : IsTidy blocks.memory) where
   can : CanBegin task t.executed run.state t
   can = can_begin law (own_slots job blocks) task t run verified
@@ -52,7 +51,7 @@ module _ (law : StepsCanBegin ℕ) (counted : HeldIsCounted) (job : ℕ) (blocks
   item = (next_item can.call).item
 
   same : question_of item run.state.stack ≡ question_by op sources
-  same = same_question task t run.state op line sources run.running can next
+  same = same_question task t run.state op sources run.running can next
 
   op_is : op_of item ≡ op
   op_is = ap (λ (q : Question). q.op) same
@@ -61,26 +60,15 @@ module _ (law : StepsCanBegin ℕ) (counted : HeldIsCounted) (job : ℕ) (blocks
   operands_are : sources ≡ operands_in blocks op t.cells
   operands_are =
       let there = are_there job blocks.memory t.cells run.state.stack run.holds in
-      let on_top : sources_of item run.state.stack ≡ operands_in blocks (op_of item) t.cells =
-      read_on_top _ _ (ap is_constant op_is ∙ reads) ∙ sym (same_top _ _ _ _ _ there.lists) in
-      ap (λ (q : Question). q.sources) (sym same) ∙ (on_top ∙ ap (λ (o : Op). operands_in blocks o t.cells) op_is)
+      grind (arith, same, read_on_top, same_top)
 
   pub is_placeable : (first second : ℕ) (flag : Bool) → HaveKinds (source_kinds op) sources → shape op sources ≡ None →
       length (result_kinds op) ≡ result_count second → need op sources ≡ (first, second) →
       flag ≡ flag_of (question_by op sources) → held_words job blocks + first + second ≤ task.limits.words →
-      IsPlaceable task job blocks t (record { op = op; line = line; first = first; second = second; flag = flag })
-  is_placeable first second flag kinds shaped count needs flag_is room = record {
-    question = next.question ∙ ap (λ (s : List (List ℤ)). Some (question_by op s)) operands_are;
-    line_is = next.line_is;
-    flag_is = flag_is ∙ ap (λ (s : List (List ℤ)). flag_of (question_by op s)) operands_are;
-    can = rw (← operands_are) (record { kinds = kinds; shaped = shaped; needs = needs });
-    count = count;
-    deep =
-        rw (← op_is) (deep_enough (op_of item) (length t.cells) can.deep);
-    own =
-        rw (← op_is) (counted task.rule job blocks item run.state t.cells run.holds tidy).own;
-    room = room;
-  }
+      IsPlaceable task job blocks t (record { op = op; first = first; second = second; flag = flag })
+  is_placeable first second flag kinds shaped count needs flag_is room =
+      let is = counted task.rule job blocks item run.state t.cells run.holds tidy in
+      grind (arith, item, operands_are, op_is, deep_enough)
 
 -- ---- the results
 
@@ -136,5 +124,4 @@ with_long_default words ids default op k needed op_is within third can =
     let there : slice_index_or (map words ids) 2 [] ≡ words default =
     get_or_default (map words ids) 2 [] (words default) (omega (arith, within, length-map ids words))
     ∙ (get_or-map words ids 2 default ∙ ap words (sym third)) in
-    let long : needed ≡ (length (words default), 0) = five_long _ k _ now ∙ ap (λ (x : List ℤ). (length x, 0)) there in
-    subst (CanCompute (SegmentedOp (DefaultPermute k)) (map words ids)) long now
+    rw (five_long _ k _ now ∙ ap (λ (x : List ℤ). (length x, 0)) there) at now

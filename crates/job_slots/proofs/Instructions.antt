@@ -1,7 +1,6 @@
 -- How many results an instruction has, and when it is a RET.
 use Rattle.std.proofs.Common.{◌≡◌, ◌≤◌, ℕ, Bool, List, [], ◌∷◌, length, arith}
 use Rattle.std.specs.Prelude.{ℤ}
-use Rattle.vcode_base.specs.declared.instr.Instr.TheVariants as instr
 use Rattle.vcode_base.specs.declared.kind.Kind.{Kind}
 use Rattle.vcode_base.specs.declared.op.Op.{Op}
 use Rattle.vcode_base.specs.declared.op.Op.TheVariants.{Return}

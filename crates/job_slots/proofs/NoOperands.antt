@@ -1,10 +1,6 @@
 -- The next instruction of a job, if it has no operands.
-use Rattle.std.proofs.Common.{◌≡◌, ℕ, ℤ, ◌+◌, ◌≤◌, Bool, true, ltb, List, [], ◌∷◌, length, Option, None, refl, sym, ◌∙◌}
+use Rattle.std.proofs.Common.{◌≡◌, ℕ, ℤ, ◌+◌, ◌≤◌, Bool, ltb, List, [], ◌∷◌, length, None, refl, sym, ◌∙◌}
 use Rattle.std.proofs.Common.{ap, subst, arith}
-use Rattle.std.specs.Prelude.{is_some}
-use Rattle.vcode_base.specs.declared.fault.DataFault.{DataFault}
-use Rattle.vcode_base.specs.declared.fault.MemoryFault.{MemoryFault}
-use Rattle.vcode_base.specs.declared.instr.Instr.TheVariants.{Const}
 use Rattle.vcode_base.specs.declared.limits.Limits.{Limits}
 use Rattle.vcode_base.specs.declared.op.Op.{Op}
 use Rattle.vcode_base.specs.declared.op.Op.TheVariants as op
@@ -31,7 +27,7 @@ use Rattle.job_slots.specs.Executions.{HeldIsCounted}
 use Rattle.job_slots.specs.Lines.{HasNoOperands, IsListOfNext, IsOpOfNext}
 use Rattle.job_slots.specs.Needs.{words_with}
 use Rattle.job_slots.specs.Slots.{IsRunningSlot}
-use Rattle.job_slots.proofs.Begins.{can_begin, line_when, question_when}
+use Rattle.job_slots.proofs.Begins.{can_begin, question_when}
 use Rattle.job_slots.proofs.EarlyEnds.{early_end_is, same_by}
 
 -- ---- the instruction
@@ -63,21 +59,22 @@ held_alone : (rule : Rule) (item : Item) (s : State) → operand_count (op_of it
     held_at rule item s ≡ stack_words s.stack
 held_alone rule item s none = grind arith
 
-counts_by : (list : List ℤ) (own stack under peak : ℕ) → own ≡ stack → under ≡ stack → stack ≤ peak →
-    CountsAs (under + length list) peak (words_with list own)
-counts_by list own stack under peak own_is under_is within = grind arith
-
 same_test : (list : List ℤ) (own stack needed limit : ℕ) → own ≡ stack → needed ≡ length list → stack ≤ limit →
     ltb limit (words_with list own) ≡ ltb limit (stack + needed)
 same_test list own stack needed limit own_is needed_is within = grind arith
 
-some_ends : (line : ℕ) (o : Option MemoryFault) → is_some (ending_by line None o) ≡ is_some o
-some_ends line o = grind arith
-
-none_ends : (line : ℕ) (o : Option MemoryFault) → o ≡ None → ending_by line None o ≡ None
-none_ends line o e = ap (ending_by line None) e
-
 -- ---- the next instruction of a job that runs
+
+-- what is held and what counts of its words, and that the job ends before it exactly if these pass a limit
+pub record HasWords (number : ℕ) (blocks : JobBlocks) (task : Task) (t : TrackState ℕ) (o : Op) (list : List ℤ) : Type 0
+  where
+    pub few_held : held_words number blocks ≤ t.limits.words
+    pub counts : CountsAs (held_under task.rule number o t.cells blocks + length list) t.peak
+        (words_with list (held_words number blocks))
+    pub line : ℕ
+    pub ends : (t.executed ≡ t.limits.budget → ⊥) → early_end_at task t.executed ≡ ending_by line None
+        (memory_fault t.limits o (words_with list (held_words number blocks)) (depth_after o (length t.cells))
+        (length t.frames))
 
 module _ (begins : StepsCanBegin ℕ) (number : ℕ) (blocks : JobBlocks) (task : Task) (t : TrackState ℕ)
     (run : IsRunningSlot (own_slots number blocks) task t) (verified : IsVerified task) (o : Op) (list : List ℤ)
@@ -103,14 +100,14 @@ module _ (begins : StepsCanBegin ℕ) (number : ℕ) (blocks : JobBlocks) (task 
   asked : question_of item run.state.stack ≡ question_by o (sources_by o list)
   asked = cc (read_alone item run.state.stack none_of, op_is, list_is)
 
-  is_next : IsNext task t.executed o (next_item can.call).number (sources_by o list)
-  is_next = grind (arith, question_when, asked, line_when)
+  is_next : IsNext task t.executed o (sources_by o list)
+  is_next = grind (arith, question_when, asked)
 
   -- its results are its list, and no second one
   pub answered : (flag : Bool) → flag ≡ flag_of (question_by o (list ∷ [])) → IsAnswered task t.executed o flag list []
   answered flag flag_is = record {
     question = question_by o (sources_by o list);
-    asked = is_next.question;
+    asked = is_next;
     op_is = refl;
     flag_is = flag_is ∙ is_plain.flag_is;
     results = is_plain.results;
@@ -137,36 +134,19 @@ module _ (begins : StepsCanBegin ℕ) (number : ℕ) (blocks : JobBlocks) (task 
     within : held ≤ t.limits.words
     within = let same = ap (λ (l : Limits). l.words) run.at.limits in omega (arith, reached.words, same)
 
-    pub few_held : held_words number blocks ≤ t.limits.words
-    few_held = omega (arith, held_own, within)
+    needed : need_words (question_by o (sources_by o list)) ≡ length list
+    needed = let same = ap (λ (p : ℕ × ℕ). p.0 + p.1) is_plain.needs in omega (arith, same)
 
-    pub counts : CountsAs (held_under task.rule number o t.cells blocks + length list) t.peak
-        (words_with list (held_words number blocks))
-    counts = counts_by _ _ _ _ _ held_own held_any (omega (arith, reached.held, run.at.peak))
-
-    module _ (unspent : t.executed ≡ t.limits.budget → ⊥) where
-      abbrev fault : Option MemoryFault
-      fault =
-          memory_fault t.limits o (words_with list (held_words number blocks)) (depth_after o (length t.cells))
-          (length t.frames)
-
-      needed : need_words (question_by o (sources_by o list)) ≡ length list
-      needed = let same = ap (λ (p : ℕ × ℕ). p.0 + p.1) is_plain.needs in omega (arith, same)
-
-      same_fault : memory_fault t.limits o (held + need_words (question_by o (sources_by o list)))
-          (depth_after o (length t.cells)) (length t.frames) ≡ fault
-      same_fault = sym (same_by _ o _ _ _ _ (same_test _ _ _ _ _ held_own needed within))
-
-      -- it ends the job exactly if its words pass a limit
-      ends : early_end_at task t.executed ≡ ending_by (next_item can.call).number None fault
-      ends =
-          early_end_is task t run.state o (next_item can.call).number (sources_by o list) held run.running run.at can
-          is_next (sym held_here) unspent ∙ (ap (λ (shaped : Option DataFault). ending_by (next_item can.call).number
-          shaped (memory_fault t.limits o (held + need_words (question_by o (sources_by o list))) (depth_after o (length
-          t.cells)) (length t.frames))) is_plain.shaped ∙ ap (ending_by (next_item can.call).number None) same_fault)
-
-      pub ends_by_fault : is_some fault ≡ true → is_some (early_end_at task t.executed) ≡ true
-      ends_by_fault is = ap is_some ends ∙ (some_ends (next_item can.call).number fault ∙ is)
-
-      pub goes_on : fault ≡ None → early_end_at task t.executed ≡ None
-      goes_on is = ends ∙ none_ends (next_item can.call).number fault is
+    pub has_words : HasWords number blocks task t o list
+    has_words = record {
+      few_held = omega (arith, held_own, within);
+      counts = grind (arith, held_own, held_any, reached);
+      line = (next_item can.call).number;
+      ends = λ unspent.
+          early_end_is task t run.state o (sources_by o list) held run.running run.at can is_next (sym held_here)
+          unspent ∙ rw (
+            is_plain.shaped,
+            same_by _ o _ _ (depth_after o (length t.cells)) (length t.frames)
+                (same_test list _ _ _ _ held_own needed within),
+          );
+    }

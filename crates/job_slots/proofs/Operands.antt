@@ -1,5 +1,5 @@
 -- The words of the operands that an instruction takes, by their places.
-use Rattle.std.proofs.Common.{◌≡◌, ℕ, ℤ, ◌-◌, ◌≤◌, List, [], ◌∷◌, ◌++◌, length, map, take, drop, reverse, refl, sym}
+use Rattle.std.proofs.Common.{◌≡◌, ℕ, ℤ, ◌-◌, ◌≤◌, List, [], ◌∷◌, length, map, take, drop, reverse, refl, sym}
 use Rattle.std.proofs.Common.{◌∙◌, ap, arith, length-drop}
 use Rattle.std.specs.Borrow.{Bor}
 use Rattle.std.proofs.lemmas.List.{take-map, length-reverse, reverse-append, take-append-drop, drop_at}
@@ -28,9 +28,7 @@ pub lent : (n : ℕ) (ws : List (List ℤ)) (a b c d e : Bor (List ℤ)) → n �
     a.now ≡ operand ws 0 → b.now ≡ operand ws 1 → c.now ≡ operand ws 2 → d.now ≡ operand ws 3 → e.now ≡ operand ws 4 →
     contents (take n (a ∷ b ∷ c ∷ d ∷ e ∷ [])) ≡ ws
 lent n ws a b c d e long few first second third fourth fifth =
-    let shown : contents (a ∷ b ∷ c ∷ d ∷ e ∷ []) ≡ five_of ws = cc in
-    sym (take-map (λ (r : Bor (List ℤ)). r.now) n (a ∷ b ∷ c ∷ d ∷ e ∷ []))
-    ∙ (ap (take n) shown ∙ (ap (λ k. take k (five_of ws)) long ∙ five ws few))
+    rw (← take-map, long, first, second, third, fourth, fifth) (five ws few)
 
 pub few_operands : (op : Op) → operand_count op ≤ 5
 few_operands op = grind arith
@@ -49,8 +47,11 @@ same_top f g n xs ys same = map-top f n xs ∙ (ap (top_entries n) same ∙ sym 
 pub last_are_top : {E : Type 0} (n : ℕ) (xs : List E) → n ≤ length xs →
     drop (length xs - n) (reverse xs) ≡ top_entries n xs
 last_are_top n xs h =
-    let whole : reverse xs ≡ reverse (drop n xs) ++ top_entries n xs = ap reverse (sym (take-append-drop n xs))
-    ∙ reverse-append (take n xs) (drop n xs) in
-    let long : length (reverse (drop n xs)) ≡ length xs - n =
-    omega (arith, length-reverse (drop n xs), length-drop n xs) in
-    ap (drop (length xs - n)) whole ∙ drop_at (reverse (drop n xs)) (top_entries n xs) (length xs - n) long
+    grind (
+      arith,
+      drop_at,
+      take-append-drop n xs,
+      reverse-append (take n xs) (drop n xs),
+      length-reverse (drop n xs),
+      length-drop n xs,
+    )

@@ -1,5 +1,5 @@
 -- What a slot shows of a job that runs, in the words of its state.
-use Rattle.std.proofs.Common.{◌≡◌, ℕ, List, [], Option, Some, None, sym, ◌∙◌, subst}
+use Rattle.std.proofs.Common.{◌≡◌, ℕ, List, [], Option, Some, None, sym, subst}
 use Rattle.std.proofs.lemmas.List.Elements.{All-nil}
 use Rattle.vcode_base.specs.declared.outcome.Outcome.{Outcome}
 use Rattle.refcounts.specs.SharedState.{SharedState, IsLive, AreLive}
@@ -12,7 +12,7 @@ use Rattle.job_steps.specs.Tracks.{TrackState}
 use Rattle.job_slots.specs.declared.status.Status.{Status}
 use Rattle.job_slots.specs.declared.status.Status.TheVariants.{Waiting, Live, InFlight, Ended, Collected}
 use Rattle.job_slots.specs.Laws.{IsPicture, ShownAreLive, ShownAreReached}
-use Rattle.job_slots.specs.Slots.{ShowsAs, IsRunningSlot, Leaves, standing_by}
+use Rattle.job_slots.specs.Slots.{ShowsAs, Leaves, standing_by}
 use Rattle.job_slots.proofs.Held.{are_there}
 
 nothing_live : (memory : SharedState) (ids : List ℕ) → ids ≡ [] → AreLive memory ids
@@ -36,28 +36,16 @@ shown_are_live number blocks task slot h = live_as number blocks.memory task slo
 
 -- ---- a live job
 
-record IsRunningFrom (number : ℕ) (memory : SharedState) (task : Task) (t : TrackState ℕ) (count : ℕ) : Type 0 where
-  run : IsRunningSlot (slots_seen_by number memory) task t
-  executed : t.executed ≡ count
-
-running_as : (number : ℕ) (memory : SharedState) (task : Task) (t : TrackState ℕ) (o : Option (Outcome (List Vector)))
+pictured : (number : ℕ) (memory : SharedState) (task : Task) (t : TrackState ℕ) (o : Option (Outcome (List Vector)))
     (s : Status) (count : ℕ) → ShowsAs (slots_seen_by number memory) task t o s →
-    standing_by s t.executed ≡ standing.Live count → IsRunningFrom number memory task t count
-running_as number memory task t o Waiting count h e = cc
-running_as number memory task t o Live count h e = record { run = h; executed = (cc) }
-running_as number memory task t o InFlight count h e = cc
-running_as number memory task t o Ended count h e = cc
-running_as number memory task t o Collected count h e = cc
-
-same_running : (s t : State) → Running s ≡ Running t → s ≡ t
-same_running s t e = cc
+    standing_by s t.executed ≡ standing.Live count → (state : State) → state_after task count ≡ Running state →
+    IsPicture memory task t state
+pictured number memory task t o Live count h live state reached =
+    let executed : t.executed ≡ count = cc in
+    let same : h.state ≡ state = cc (h.running, executed, reached) in
+    rw (← same) (record { at = h.at; words = (are_there number memory t.cells h.state.stack h.holds).lists })
+pictured number memory task t o s count h live state reached = cc
 
 pub shown_are_reached : ShownAreReached
 shown_are_reached number blocks task slot h count live s reached =
-    let from = running_as number blocks.memory task slot.trace slot.outcome slot.status count h.shown live in
-    let run = from.run in
-    let there = are_there number blocks.memory slot.trace.cells run.state.stack run.holds in
-    let here : state_after task count ≡ Running run.state =
-    subst (λ (n : ℕ). state_after task n ≡ Running run.state) from.executed run.running in
-    let same : run.state ≡ s = same_running run.state s (sym here ∙ reached) in
-    subst (IsPicture blocks.memory task slot.trace) same (record { at = run.at; words = there.lists })
+    pictured number blocks.memory task slot.trace slot.outcome slot.status count h.shown live s reached

@@ -41,8 +41,6 @@ module _ (rule : Rule) (job : ℕ) (op : Op) (stack : List ℕ) (first second : 
         AreSettled rule job op first second stack ids old new →
         NewCells rule job op stack ids next (vectors_of kinds (first ∷ second ∷ [])) old new
     new_cells [] [] same few settled = grind arith
-    new_cells [] (id ∷ ids) same few settled = absurd (omega (arith, same))
-    new_cells (k ∷ ks) [] same few settled = absurd (omega (arith, same))
     new_cells (k ∷ []) (id ∷ []) same few settled =
         let entry : StackEntry = record { tag = next; value = record { kind = k; words = first } } in
         record {
@@ -52,8 +50,6 @@ module _ (rule : Rule) (job : ℕ) (op : Op) (stack : List ℕ) (first second : 
           count = refl;
           are_committed = (new, settled, refl);
         }
-    new_cells (k ∷ []) (id ∷ other ∷ ids) same few settled = absurd (omega (arith, same))
-    new_cells (k ∷ l ∷ ks) (id ∷ []) same few settled = absurd (omega (arith, same))
     new_cells (k ∷ l ∷ []) (below ∷ top ∷ []) same few settled =
         let lower : StackEntry = record { tag = next; value = record { kind = k; words = first } } in
         let upper : StackEntry = record { tag = next + 1; value = record { kind = l; words = second } } in
@@ -64,8 +60,7 @@ module _ (rule : Rule) (job : ℕ) (op : Op) (stack : List ℕ) (first second : 
           count = refl;
           are_committed = (settled.0, settled.1, (settled.2, settled.3, settled.4));
         }
-    new_cells (k ∷ l ∷ []) (below ∷ top ∷ other ∷ ids) same few settled = absurd (omega (arith, same))
-    new_cells (k ∷ l ∷ m ∷ ks) (below ∷ top ∷ ids) same few settled = absurd (omega (arith, few))
+    new_cells kinds ids same few settled = absurd (omega (arith, same, few))
 
 -- an instruction changes no grant
 pub same_grants : (op : Op) (ids : List ℕ) (blocks : JobBlocks) →

@@ -1,6 +1,6 @@
 -- Parts of lists from the other end.
-use Rattle.std.proofs.Common.{◌≡◌, ◌∙◌, ◌+◌, ◌-◌, ◌≤◌, ℕ, List, [], ◌∷◌, ◌++◌, length, map, take, drop, reverse, refl}
-use Rattle.std.proofs.Common.{sym, ap, arith}
+use Rattle.std.proofs.Common.{◌≡◌, ◌+◌, ◌-◌, ◌≤◌, ℕ, List, [], ◌∷◌, ◌++◌, length, map, take, drop, reverse, refl}
+use Rattle.std.proofs.Common.{arith}
 use Rattle.std.specs.Prelude.{All}
 use Rattle.std.proofs.lemmas.List.{length-reverse, length-take, length-drop, reverse-append, reverse-reverse}
 use Rattle.std.proofs.lemmas.List.{map-append, take-append-drop, take_all, drop-take}
@@ -30,9 +30,7 @@ All-reverse P xs all = All-permutation P xs (reverse xs) (IsPermutation-reverse 
 
 module _ (xs : List ℕ) (k : ℕ) (within : k ≤ length xs) where
   split : reverse xs ≡ reverse (drop (length xs - k) xs) ++ reverse (take (length xs - k) xs)
-  split =
-      ap reverse (sym (take-append-drop (length xs - k) xs))
-      ∙ reverse-append (take (length xs - k) xs) (drop (length xs - k) xs)
+  split = rw (← reverse-append, take-append-drop)
 
   count : k ≡ length (reverse (drop (length xs - k) xs))
   count = omega (arith, length-reverse (drop (length xs - k) xs), length-drop (length xs - k) xs)
@@ -57,11 +55,9 @@ pub moved_slice : (xs : List ℕ) (lower upper : ℕ) → lower + upper ≤ leng
     take (length xs - upper - (length xs - upper - lower)) (drop (length xs - upper - lower) xs)
     ≡ moved_ids lower upper (reverse xs)
 moved_slice xs lower upper within =
-    let from = length xs - upper - lower in
-    let size : length xs - upper - from ≡ lower = omega arith in
-    let end : from + lower ≡ length xs - upper = omega arith in
-    ap (λ n. take n (drop from xs)) size ∙ sym (drop-take from lower xs) ∙ ap (λ n. drop from (take n xs)) end
-    ∙ moved_below xs lower upper within
+    let size : length xs - upper - (length xs - upper - lower) ≡ lower = omega arith in
+    let end : length xs - upper - lower + lower ≡ length xs - upper = omega arith in
+    rw (size, ← moved_below xs lower upper within, ← drop-take, end)
 
 -- the blocks that an instruction copies are few
 pub few_copied : (op : Op) (lower upper : ℕ) (ids cells slice : List ℕ) (blocks : JobBlocks) →

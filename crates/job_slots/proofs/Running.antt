@@ -1,5 +1,5 @@
 -- A job that is run until it is over.
-use Rattle.std.proofs.Common.{◌≡◌, ℕ, suc, ◌+◌, ◌-◌, ◌<◌, ◌≤◌, Bool, true, false, sym, ◌∙◌, ap, arith}
+use Rattle.std.proofs.Common.{◌≡◌, ℕ, suc, ◌+◌, ◌-◌, ◌<◌, Bool, true, false, ◌∙◌, ap, arith}
 use Rattle.refcounts.specs.SharedState.{IsTidy}
 use Rattle.job_memory.specs.JobBlocks.{JobBlocks, ChangesOnlyOf}
 use Rattle.job_memory.specs.Laws.{ChangesJoin}
@@ -25,11 +25,9 @@ pub record IsOnRun (number : ℕ) (task : Task) (first : SlotState) (before : Jo
 
 -- ---- a step
 
-is_live_at : (s : Status) (n step : ℕ) → standing_by s n ≡ Live step → s ≡ status.Live
-is_live_at s n step e = grind arith
-
-same_count : (n step : ℕ) → ◌≡◌ {A = Standing} (Live n) (Live step) → n ≡ step
-same_count n step e = cc
+is_live_at : (slot : SlotState) (step : ℕ) → standing_of slot ≡ Live step →
+    (slot.status ≡ status.Live) × (slot.trace.executed ≡ step)
+is_live_at slot step e = grind arith
 
 -- the step was executed
 pub record HasStepped (number : ℕ) (task : Task) (first : SlotState) (before : JobBlocks) (slot : SlotState)
@@ -52,29 +50,19 @@ module _ (number : ℕ) (task : Task) (first : SlotState) (before : JobBlocks) (
   pub on_next : ChangesJoin → Reaches → TakesStep number task n old new blocks true → IsTidy blocks.memory →
       HasStepped number task first before slot new blocks
   on_next join reaches took tidy =
-      let goes_on : standing_of new ≡ Live (n + 1) = took.standing ∙ led number task n true old new blocks took in
-      let live : new.status ≡ status.Live = is_live_at new.status new.trace.executed (n + 1) goes_on in
-      let there : new.trace.executed ≡ n + 1 =
-      same_count new.trace.executed (n + 1) (sym (ap (λ s. standing_by s new.trace.executed) live) ∙ goes_on) in
-      let run = runs number blocks task new took.shows live in
-      let within : new.trace.executed ≤ task.limits.budget =
-      (reaches took.shows.verified.0 task took.shows.verified.1 new.trace.executed run.state run.running).budget in
+      let goes_on = took.standing ∙ led number task n true old new blocks took in
+      let at = is_live_at new (n + 1) goes_on in
+      let run = runs number blocks task new took.shows at.0 in
+      let is = reaches took.shows.verified.0 task took.shows.verified.1 new.trace.executed run.state run.running in
       record {
         on = record {
           shows = took.shows;
-          live = live;
+          live = at.0;
           others = (join number).both before old blocks on.others took.others;
           tidy = tidy;
-          from_first = λ last run.
-              on.from_first last (
-                suc run.0,
-                (
-                  was_live,
-                  (rw (← stands true took) run.1),
-                ),
-              );
+          from_first = λ last run. on.from_first last (suc run.0, (was_live, (rw (← stands true took) run.1)));
         };
-        less = omega (arith, there, within);
+        less = omega (arith, at.1, is.budget);
       }
 
   pub has_run : TakesStep number task n old new blocks false → HasRun number task (standing_of first) (standing_of new)

@@ -1,6 +1,5 @@
 -- A memory's slots as a job sees them.
-use Rattle.std.proofs.Common.{◌≡◌, ◌+◌, ◌<◌, ℕ, true, false, cond, eqb, ltb, List, [], ◌∷◌, length, map, set, refl, sym}
-use Rattle.std.proofs.Common.{ap, arith}
+use Rattle.std.proofs.Common.{◌≡◌, ◌+◌, ◌<◌, ℕ, cond, ltb, List, [], ◌∷◌, length, map, refl, sym, arith}
 use Rattle.std.specs.Prelude.{sum_by}
 use Rattle.std.proofs.lemmas.List.Sums.{sum_by-cons, sum_by-set}
 use Rattle.std.proofs.lemmas.Bool.{eq-eqb}
@@ -9,20 +8,19 @@ use Rattle.refcounts.specs.SharedState.{Slot, empty_slot, SharedState, slot_in, 
 use Rattle.refcounts.specs.SharedState.{block_count}
 use Rattle.refcounts.specs.Owners.{slot_seen_by, slots_seen_by}
 
-seen_empty : (job : ℕ) → slot_seen_by job empty_slot ≡ empty_slot
-seen_empty job = elim (eqb 0 job) as (λ b. cond b empty_slot empty_slot ≡ empty_slot) [ true ↦ refl | false ↦ refl ]
+pub seen_none : (job : ℕ) → slot_seen_by job empty_slot ≡ empty_slot
+seen_none job = grind arith
 
-pub seen_at : (job : ℕ) (slots : List Slot) (id : ℕ) →
+-- the slot of a number as the job sees it
+pub seen_in : (job : ℕ) (slots : List Slot) (id : ℕ) →
     slot_in (map (slot_seen_by job) slots) id ≡ slot_seen_by job (slot_in slots id)
-seen_at job [] id = sym (seen_empty job)
-seen_at job (slot ∷ slots) id = grind (arith, (seen_at job slots))
+seen_in job [] id = sym (seen_none job)
+seen_in job (slot ∷ slots) id = grind (arith, (seen_in job slots))
 
--- ---- a slot of the job
-
--- the count of a block that the job has
-pub count_seen : (job : ℕ) (memory : SharedState) (id : ℕ) → 0 < (slot_in (slots_seen_by job memory) id).count →
-    (slot_at memory id).count ≡ (slot_in (slots_seen_by job memory) id).count
-count_seen job memory id live = grind (arith, slot_at, seen_at)
+-- a block that the job has is there
+pub seen_there : (job : ℕ) (memory : SharedState) (id : ℕ) → 0 < (slot_in (slots_seen_by job memory) id).count →
+    slot_in (slots_seen_by job memory) id ≡ slot_at memory id
+seen_there job memory id some = grind (arith, seen_in, slot_at)
 
 -- ---- a new block
 
@@ -40,7 +38,7 @@ seen_sum job (slot ∷ slots) =
       seen_sum job slots,
     )
 
-abbrev one_where_named : Slot → ℕ
+abbrev pub one_where_named : Slot → ℕ
 one_where_named slot = cond (ltb 0 slot.count) 1 0
 
 -- what a new block adds to a memory
@@ -53,5 +51,5 @@ pub adds_block : (job : ℕ) (memory : SharedState) (id : ℕ) (slot : Slot) →
     slot_at memory id ≡ empty_slot → slot.owner ≡ job → slot.count ≡ 1 →
     AddsBlock job memory id (length slot.words) slot
 adds_block job memory id slot within empty owner count =
-    grind (arith, seen_words, slot_at, seen_empty, eq-eqb, sum_by-set, seen_sum, one_where_named, length-set) steps
+    grind (arith, seen_words, slot_at, seen_none, eq-eqb, sum_by-set, seen_sum, one_where_named, length-set) steps
     2000000

@@ -1,5 +1,5 @@
 -- What a job sees of a memory after it placed a block, and after references were shared or released.
-use Rattle.std.proofs.Common.{◌≡◌, ◌≢◌, ℕ, ℤ, ◌+◌, ◌<◌, ◌≤◌, List, [], ◌∷◌, length, map, refl, sym, ◌∙◌, ap, arith}
+use Rattle.std.proofs.Common.{◌≡◌, ◌≢◌, ℕ, ℤ, ◌+◌, ◌<◌, ◌≤◌, List, length, ap, arith}
 use Rattle.std.proofs.lemmas.Bool.{cases_eq, cases_lt}
 use Rattle.std.proofs.lemmas.Bool.Decides.{nat_tests}
 use Rattle.std.proofs.lemmas.List.{get_or-set_same, get_or-set_other}
@@ -7,11 +7,9 @@ use Rattle.refcounts.specs.SharedState.{Slot, empty_slot, SharedState, slot_in, 
 use Rattle.refcounts.specs.SharedState.{state_after_shares, state_after_releases, occurrences, AreLive, AreNamed}
 use Rattle.refcounts.specs.Owners.{slot_seen_by, slots_seen_by}
 use Rattle.refcounts.specs.Laws.{SharesAreCounted, ReleasesAreCounted, ReleasesKeepBlocks}
+use Rattle.job_slots.proofs.Seen.{seen_none, seen_in}
 
 -- ---- one slot
-
-seen_none : (job : ℕ) → slot_seen_by job empty_slot ≡ empty_slot
-seen_none job = grind arith
 
 seen_own : (job : ℕ) (slot : Slot) → slot.owner ≡ job → slot_seen_by job slot ≡ slot
 seen_own job slot is = grind (arith, nat_tests)
@@ -43,15 +41,7 @@ seen_less : (job taken : ℕ) (old new : Slot) → taken ≤ (slot_seen_by job o
 seen_less job taken old new few counted kept =
     grind (arith, cases_eq, seen_own, count_of, cases_lt, words_of, seen_count)
 
-abbrev recounted : Slot → ℕ → Slot
-recounted slot n = record { owner = slot.owner; count = n; words = slot.words }
-
 -- ---- the slot of a number
-
-seen_in : (job : ℕ) (slots : List Slot) (id : ℕ) →
-    slot_in (map (slot_seen_by job) slots) id ≡ slot_seen_by job (slot_in slots id)
-seen_in job [] id = sym (seen_none job)
-seen_in job (slot ∷ slots) id = grind (arith, (seen_in job slots))
 
 -- the slot of a number as the job sees it
 abbrev pub own_slot : ℕ → SharedState → ℕ → Slot
@@ -66,17 +56,11 @@ own_count job memory id = grind (arith, count_of, own_slot, slot_at, seen_at, se
 -- a block that was placed, and the others
 pub placed_here : (job : ℕ) (memory : SharedState) (id : ℕ) (words : List ℤ) → id < length memory.slots →
     own_slot job (with_slot memory id (new_slot job words)) id ≡ new_slot job words
-placed_here job memory id words within =
-    seen_at job (with_slot memory id (new_slot job words)) id
-    ∙ (ap (slot_seen_by job) (get_or-set_same memory.slots id (new_slot job words) empty_slot within)
-    ∙ seen_own job (new_slot job words) refl)
+placed_here job memory id words within = grind (arith, seen_in, get_or-set_same, nat_tests)
 
 pub placed_there : (job : ℕ) (memory : SharedState) (id other : ℕ) (words : List ℤ) → other ≢ id →
     own_slot job (with_slot memory id (new_slot job words)) other ≡ own_slot job memory other
-placed_there job memory id other words ne =
-    seen_at job (with_slot memory id (new_slot job words)) other
-    ∙ (ap (slot_seen_by job) (get_or-set_other memory.slots id other (new_slot job words) empty_slot ne)
-    ∙ sym (seen_at job memory other))
+placed_there job memory id other words ne = grind (arith, seen_in, get_or-set_other)
 
 pub none_here : (job : ℕ) (memory : SharedState) (id : ℕ) → slot_at memory id ≡ empty_slot →
     (own_slot job memory id).count ≡ 0
@@ -88,13 +72,11 @@ pub released_at : ReleasesAreCounted → ReleasesKeepBlocks → (job : ℕ) (mem
     IsLess (occurrences id ids) (own_slot job memory id) (own_slot job (state_after_releases memory ids) id)
 released_at counted kept job memory ids own id =
     let named : AreNamed memory ids = λ k. omega (arith, own k, own_count job memory k) in
-    let few : occurrences id ids ≤ (slot_seen_by job (slot_at memory id)).count =
-    rw (← seen_at job memory id) (own id) in
-    let less = seen_less _ _ _ _ few (counted memory ids id named) (kept memory ids id named) in
-    rw (← sym (seen_at job memory id)) (rw (seen_at job (state_after_releases memory ids) id) less)
+    let few = rw seen_at at (own id) in
+    rw (seen_at, seen_at) (seen_less _ _ _ _ few (counted memory ids id named) (kept memory ids id named))
 
 pub shared_at : SharesAreCounted → (job : ℕ) (memory : SharedState) (ids : List ℕ) → AreLive memory ids → (id : ℕ) →
     occurrences id ids ≤ (own_slot job memory id).count →
     IsMore (occurrences id ids) (own_slot job memory id) (own_slot job (state_after_shares memory ids) id)
 shared_at counted job memory ids live id own =
-    grind (arith, slot_at, seen_at, cases_eq, seen_own, recounted, count_of, words_of, own_slot)
+    grind (arith, slot_at, seen_at, cases_eq, seen_own, count_of, words_of, own_slot)

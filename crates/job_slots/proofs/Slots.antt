@@ -1,15 +1,15 @@
 -- Slots of jobs that wait, that are admitted, and whose step is given up.
-use Rattle.std.proofs.Common.{◌≡◌, ℕ, ◌-◌, List, length, Some, None, ◌∙◌, ap, arith}
+use Rattle.std.proofs.Common.{◌≡◌, ℕ, List, Some, ap, arith}
 use Rattle.std.proofs.lemmas.List.{length-set, get_or-set_same}
 use Rattle.refcounts.specs.SharedState as shared
-use Rattle.job_memory.specs.JobBlocks.{JobBlocks, grant_of, own_slots, with_grant}
+use Rattle.job_memory.specs.JobBlocks.{JobBlocks, own_slots, with_grant}
 use Rattle.job_steps.specs.Runs.{state_after}
 use Rattle.job_steps.specs.States.{Task, first_state}
 use Rattle.job_steps.specs.Tracks.{TrackState}
 use Rattle.job_slots.specs.declared.status.Status.TheVariants as status
 use Rattle.job_slots.specs.declared.status.Status.TheVariants.{Waiting}
 use Rattle.job_slots.specs.Laws.{NewIsShown, RecalledIsShown}
-use Rattle.job_slots.specs.Slots.{SlotState, Shows, IsRunningSlot, IsWaitingSlot, grant_by}
+use Rattle.job_slots.specs.Slots.{SlotState, Shows, IsRunningSlot, IsWaitingSlot}
 use Rattle.job_slots.proofs.Holding.{none_held}
 
 -- ---- a new slot
@@ -30,13 +30,7 @@ runs_at_first : (slots : List shared.Slot) (task : Task) (t : TrackState ℕ) �
 runs_at_first slots task t h = record {
   state = first_state task.verified;
   running = ap (state_after task) h.first.executed;
-  at = record {
-    limits = h.first.limits;
-    cells = ap length h.first.cells;
-    frames = h.first.frames;
-    executed = h.first.executed;
-    peak = h.first.peak;
-  };
+  at = grind arith;
   holds = none_held slots t.cells h.nothing;
 }
 
@@ -47,10 +41,6 @@ live slot = record { status = status.Live; trace = slot.trace; outcome = slot.ou
 waits : (number : ℕ) (blocks : JobBlocks) (task : Task) (slot : SlotState) → Shows number blocks task slot →
     slot.status ≡ Waiting → IsWaitingSlot (own_slots number blocks) task slot.trace
 waits number blocks task slot shows is = grind arith
-
-pub no_grant : (number : ℕ) (blocks : JobBlocks) (task : Task) (slot : SlotState) → Shows number blocks task slot →
-    slot.status ≡ Waiting → grant_of blocks number ≡ None
-no_grant number blocks task slot shows is = shows.grant ∙ ap (grant_by task) is
 
 pub shows_admitted : (number : ℕ) (blocks : JobBlocks) (task : Task) (slot : SlotState) →
     Shows number blocks task slot → slot.status ≡ Waiting →

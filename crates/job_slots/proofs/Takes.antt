@@ -1,16 +1,31 @@
 -- Cells that still hold a stack after a block was placed, and after references were shared or released.
-use Rattle.std.proofs.Common.{◌≡◌, ◌≢◌, ℕ, ◌+◌, ◌<◌, ◌≤◌, List, ◌∷◌, length, sym, ◌∙◌, ap, subst, arith}
+use Rattle.std.proofs.Common.{◌≡◌, ◌≢◌, ℕ, ◌+◌, ◌<◌, ◌≤◌, List, ◌∷◌, length, get_or, refl, sym, ◌∙◌, ap, arith}
 use Rattle.std.specs.Prelude.{All}
 use Rattle.std.proofs.lemmas.Bool.{cases_eq}
-use Rattle.std.proofs.lemmas.List.Elements.{All-cons, All-weaker, All-map}
-use Rattle.refcounts.specs.SharedState.{Slot, empty_slot, SharedState, slot_in, slot_at, with_slot, new_slot, IsLive}
-use Rattle.refcounts.specs.SharedState.{state_after_shares, state_after_releases, occurrences, AreLive}
+use Rattle.std.proofs.lemmas.List.Elements.{All-cons}
+use Rattle.refcounts.specs.SharedState.{Slot, empty_slot, SharedState, slot_in, slot_at, with_slot, new_slot}
+use Rattle.refcounts.specs.SharedState.{state_after_shares, occurrences, AreLive}
 use Rattle.refcounts.specs.Owners.{slots_seen_by}
-use Rattle.refcounts.specs.Laws.{SharesAreCounted, ReleasesAreCounted, ReleasesKeepBlocks}
+use Rattle.refcounts.specs.Laws.{SharesAreCounted, ReleasesAreCounted, ReleasesKeepBlocks, ReleaseStaysTidy}
+use Rattle.job_memory.specs.JobBlocks.{JobBlocks, AreOwn, ChangesOnlyOf, own_slots, with_memory}
+use Rattle.job_memory.specs.Laws.{BlocksChangeOnlyTheirJob, SharesChangeOnlyTheirJob, ReleasesChangeOnlyTheirJob}
+use Rattle.job_memory.specs.Laws.{ChangesJoin}
+use Rattle.job_slots.specs.Commits.{with_releases}
 use Rattle.job_slots.specs.Holdings.{Cell, ids_of, AreAlike, AreHeld}
-use Rattle.job_slots.proofs.Counts.{times, IsNamed, times_cons, times_itself, times_other, each_occurs, All-both}
-use Rattle.job_slots.proofs.SeenSlots.{IsLess, IsMore, own_slot, own_count, placed_here, placed_there, none_here}
-use Rattle.job_slots.proofs.SeenSlots.{released_at, shared_at}
+use Rattle.job_slots.proofs.Counts.{times}
+use Rattle.job_slots.proofs.Holding.{each_named, listed, named_cons, named_here}
+use Rattle.job_slots.proofs.SeenSlots.{own_count, placed_here, placed_there, none_here, released_at, shared_at}
+
+-- the laws of the blocks
+pub record BlockLaws : Type 0 where
+  pub shares_are_counted : SharesAreCounted
+  pub releases_are_counted : ReleasesAreCounted
+  pub releases_keep_blocks : ReleasesKeepBlocks
+  pub blocks_change_only_their_job : BlocksChangeOnlyTheirJob
+  pub shares_change_only_their_job : SharesChangeOnlyTheirJob
+  pub releases_change_only_their_job : ReleasesChangeOnlyTheirJob
+  pub changes_join : ChangesJoin
+  pub release_stays_tidy : ReleaseStaysTidy
 
 -- the words of a cell's block are its entry's
 abbrev HasWords : List Slot → Cell → Type 0
@@ -26,108 +41,113 @@ IsAlike cells x = All (AreAlike x) cells
 
 alike_among : (part whole : List Cell) → Among part whole → All (IsAlike whole) whole → All (IsAlike part) part
 alike_among part whole among alike =
-    among (IsAlike part) (All-weaker (IsAlike whole) (IsAlike part) (λ x each. among (AreAlike x) each) whole alike)
+    among (IsAlike part) (λ k d below. among (AreAlike (get_or whole k d)) (alike k d below))
 
 -- ---- one block more
 
-is_alike : (x y : Cell) → x.id ≢ y.id → x.entry.tag ≢ y.entry.tag → AreAlike x y
-is_alike x y ids tags = (λ e. absurd (ids e), λ e. absurd (tags e))
+differ : (x y : Cell) → x.id ≢ y.id → x.entry.tag ≢ y.entry.tag → AreAlike x y
+differ x y ids tags = (λ e. absurd (ids e), λ e. absurd (tags e))
 
 module _ (job : ℕ) (old : SharedState) (c : Cell) (cells : List Cell) (within : c.id < length old.slots)
     (empty : slot_at old c.id ≡ empty_slot) (held : AreHeld (slots_seen_by job old) cells)
     (later : All (λ (x : Cell). x.entry.tag < c.entry.tag) cells) where
-  abbrev new : SharedState
-  new = with_slot old c.id (new_slot job c.entry.value.words)
+  abbrev new : List Slot
+  new = slots_seen_by job (with_slot old c.id (new_slot job c.entry.value.words))
 
   unnamed : times c.id cells ≡ 0
   unnamed = omega (arith, none_here job old c.id empty, held.counts c.id)
 
   apart : All (λ (x : Cell). x.id ≢ c.id) cells
-  apart =
-      All-weaker (IsNamed cells) (λ (x : Cell). x.id ≢ c.id) (λ x some e. absurd (let here : 0 < times c.id cells =
-      subst (λ (id : ℕ). 0 < times id cells) e some in omega (arith, here, unnamed))) cells (each_occurs cells)
+  apart k d below e = absurd (omega (arith, unnamed, rw e at (each_named cells k d below)))
 
-  words : All (HasWords (slots_seen_by job new)) (c ∷ cells)
-  words =
-      All-cons (HasWords (slots_seen_by job new)) c cells
-      (ap (λ (s : Slot). s.words) (placed_here job old c.id c.entry.value.words within))
-      (All-weaker (λ (x : Cell). (x.id ≢ c.id) × HasWords (slots_seen_by job old) x) (HasWords (slots_seen_by job new))
-      (λ x both. ap (λ (s : Slot). s.words) (placed_there job old c.id x.id c.entry.value.words both.0) ∙ both.1) cells
-      (All-both (λ (x : Cell). x.id ≢ c.id) (HasWords (slots_seen_by job old)) cells apart held.words))
+  words : All (HasWords new) cells
+  words k d below =
+      ap (λ (s : Slot). s.words) (placed_there job old c.id (get_or cells k d).id c.entry.value.words (apart k d below))
+      ∙ held.words k d below
 
-  counts : (id : ℕ) → (slot_in (slots_seen_by job new) id).count ≡ times id (c ∷ cells)
+  counts : (id : ℕ) → (slot_in new id).count ≡ occurrences id (c.id ∷ ids_of cells)
   counts id =
-      grind (arith, cases_eq, slot_in, new, placed_here, times_cons, times_itself, unnamed, placed_there, times_other)
+      let step = named_cons id c.id (ids_of cells) in
+      grind (arith, cases_eq, placed_here, unnamed, placed_there, named_here)
 
-  -- a cell of another block, with an older tag
-  abbrev IsOlder : Cell → Type 0
-  IsOlder x = (x.id ≢ c.id) × (x.entry.tag < c.entry.tag)
+  alike_after : All (AreAlike c) cells
+  alike_after k d below = differ c (get_or cells k d) (λ e. apart k d below (sym e))
+      (λ e. absurd (omega (arith, later k d below, e)))
 
-  older : All IsOlder cells
-  older = All-both (λ (x : Cell). x.id ≢ c.id) (λ (x : Cell). x.entry.tag < c.entry.tag) cells apart later
-
-  alike_after : (x : Cell) → IsOlder x → AreAlike c x
-  alike_after x o = is_alike c x (λ e. o.0 (sym e)) (λ e. absurd (omega (arith, o.1, e)))
-
-  alike : All (IsAlike (c ∷ cells)) (c ∷ cells)
-  alike = grind (arith, All-cons, IsAlike, All-weaker, IsOlder, alike_after, older, is_alike, All-both)
+  alike_before : All (λ x. AreAlike x c) cells
+  alike_before k d below = differ (get_or cells k d) c (apart k d below)
+      (λ e. absurd (omega (arith, later k d below, e)))
 
   -- a new block, whose entry's tag is newer than all others
   pub placed_one : AreHeld (slots_seen_by job (with_slot old c.id (new_slot job c.entry.value.words))) (c ∷ cells)
-  placed_one = record { words = words; counts = counts; alike = alike }
-
--- ---- references less
-
-module _ (counted : ReleasesAreCounted) (keeps : ReleasesKeepBlocks) (job : ℕ) (memory : SharedState)
-    (kept taken whole : List Cell) (among : Among kept whole)
-    (split : (id : ℕ) → times id kept + times id taken ≡ times id whole)
-    (held : AreHeld (slots_seen_by job memory) whole) where
-  pub own_taken : (id : ℕ) → occurrences id (ids_of taken) ≤ (slot_in (slots_seen_by job memory) id).count
-  own_taken id = omega (arith, split id, held.counts id)
-
-  less : (id : ℕ) → IsLess (times id taken) (own_slot job memory id)
-      (own_slot job (state_after_releases memory (ids_of taken)) id)
-  less id = released_at counted keeps job memory (ids_of taken) own_taken id
-
-  -- The cells that are left hold theirs after the blocks of the others are released.
-  pub held_released : AreHeld (slots_seen_by job (state_after_releases memory (ids_of taken))) kept
-  held_released = record {
-    words = All-weaker (λ (c : Cell). (0 < times c.id kept) × HasWords (slots_seen_by job memory) c)
-        (HasWords (slots_seen_by job (state_after_releases memory (ids_of taken))))
-        (λ c both. (less c.id).words (omega (arith, both.0, split c.id, held.counts c.id)) ∙ both.1) kept
-        (All-both (IsNamed kept) (HasWords (slots_seen_by job memory)) kept (each_occurs kept)
-        (among (HasWords (slots_seen_by job memory)) held.words));
-    counts = λ id. omega (arith, (less id).count, split id, held.counts id);
-    alike = alike_among kept whole among held.alike;
+  placed_one = record {
+    words = All-cons (HasWords new) c cells
+        (ap (λ (s : Slot). s.words) (placed_here job old c.id c.entry.value.words within)) words;
+    counts = counts;
+    alike = All-cons (IsAlike (c ∷ cells)) c cells (All-cons (AreAlike c) c cells (λ e. refl, λ e. refl) alike_after)
+        (λ k d below. All-cons (AreAlike (get_or cells k d)) c cells (alike_before k d below) (held.alike k d below));
   }
 
--- ---- references more
+-- ---- references less, and more
 
-module _ (counted : SharesAreCounted) (job : ℕ) (memory : SharedState) (new more whole : List Cell)
-    (among : Among new whole) (part : Among more whole) (few : (id : ℕ) → times id more ≤ times id whole)
-    (sum : (id : ℕ) → times id new ≡ times id whole + times id more)
-    (held : AreHeld (slots_seen_by job memory) whole) where
-  pub own_shared : All (λ id. 0 < (slot_in (slots_seen_by job memory) id).count) (ids_of more)
-  own_shared =
-      All-map (λ id. 0 < (slot_in (slots_seen_by job memory) id).count) (λ (c : Cell). c.id) more
-      (All-weaker (IsNamed whole) (λ (c : Cell). 0 < (slot_in (slots_seen_by job memory) c.id).count)
-      (λ c some. omega (arith, some, held.counts c.id)) more (part (IsNamed whole) (each_occurs whole)))
+-- these cells hold a stack, and only the job's blocks changed
+pub record IsPlaced (job : ℕ) (old placed : JobBlocks) (whole : List Cell) : Type 0 where
+  pub held : AreHeld (own_slots job placed) whole
+  pub others : ChangesOnlyOf job old placed
 
-  pub live_shared : AreLive memory (ids_of more)
-  live_shared =
-      All-weaker (λ id. 0 < (slot_in (slots_seen_by job memory) id).count) (λ id. IsLive memory id)
-      (λ id some. omega (arith, some, own_count job memory id)) (ids_of more) own_shared
+-- these cells hold a stack after the blocks of these numbers are released
+pub record IsReleased (job : ℕ) (old placed : JobBlocks) (ids : List ℕ) (kept : List Cell) : Type 0 where
+  pub own : AreOwn job placed ids
+  pub held : AreHeld (own_slots job (with_releases ids placed)) kept
+  pub others : ChangesOnlyOf job old (with_releases ids placed)
 
-  shares : (id : ℕ) → IsMore (times id more) (own_slot job memory id)
-      (own_slot job (state_after_shares memory (ids_of more)) id)
-  shares id = shared_at counted job memory (ids_of more) live_shared id (omega (arith, few id, held.counts id))
+-- so do these after the blocks of these numbers are shared
+pub record IsShared (job : ℕ) (old placed : JobBlocks) (ids : List ℕ) (new : List Cell) : Type 0 where
+  pub live : AreLive placed.memory ids
+  pub held : AreHeld (own_slots job (with_memory placed (state_after_shares placed.memory ids))) new
+  pub others : ChangesOnlyOf job old (with_memory placed (state_after_shares placed.memory ids))
 
-  -- So do the cells of copies and what is copied, after the blocks of the copies are shared.
-  pub held_shared : AreHeld (slots_seen_by job (state_after_shares memory (ids_of more))) new
-  held_shared = record {
-    words = All-weaker (HasWords (slots_seen_by job memory))
-        (HasWords (slots_seen_by job (state_after_shares memory (ids_of more))))
-        (λ c here. (shares c.id).words ∙ here) new (among (HasWords (slots_seen_by job memory)) held.words);
-    counts = λ id. omega (arith, (shares id).count, sum id, held.counts id);
-    alike = alike_among new whole among held.alike;
-  }
+module _ (laws : BlockLaws) (job : ℕ) (old placed : JobBlocks) (whole : List Cell) (is : IsPlaced job old placed whole)
+  where
+    -- the cells that are left hold theirs after the blocks of the others are released
+    pub released : (kept taken : List Cell) → Among kept whole →
+        ((id : ℕ) → times id kept + times id taken ≡ times id whole) → IsReleased job old placed (ids_of taken) kept
+    released kept taken among split =
+        let own : AreOwn job placed (ids_of taken) = λ id. omega (arith, split id, is.held.counts id) in
+        let less = released_at laws.releases_are_counted laws.releases_keep_blocks job placed.memory (ids_of taken) own
+        in
+        record {
+          own = own;
+          held = record {
+            words = λ k d below. let c = get_or kept k d in
+                (less c.id).words (omega (arith, each_named kept k d below, split c.id, is.held.counts c.id))
+                ∙ among (HasWords (own_slots job placed)) is.held.words k d below;
+            counts = λ id. omega (arith, (less id).count, split id, is.held.counts id);
+            alike = alike_among kept whole among is.held.alike;
+          };
+          others = (laws.changes_join job).both old placed _ is.others
+              (laws.releases_change_only_their_job placed job (ids_of taken) own);
+        }
+
+    -- so do the cells of copies and what is copied, after the blocks of the copies are shared
+    pub shared : (new more : List Cell) → Among new whole → ((id : ℕ) → times id more ≤ times id whole) →
+        ((id : ℕ) → times id new ≡ times id whole + times id more) → IsShared job old placed (ids_of more) new
+    shared new more among few sum =
+        let own : All (λ id. 0 < (slot_in (own_slots job placed) id).count) (ids_of more) = λ k d below.
+        let id = get_or (ids_of more) k d in
+        omega (arith, listed (ids_of more) k d below, few id, is.held.counts id) in
+        let live : AreLive placed.memory (ids_of more) = λ k d below.
+        omega (arith, own k d below, own_count job placed.memory (get_or (ids_of more) k d)) in
+        let shares = (λ (id : ℕ). shared_at laws.shares_are_counted job placed.memory (ids_of more) live id
+        (omega (arith, few id, is.held.counts id))) in
+        record {
+          live = live;
+          held = record {
+            words = λ k d below. (shares (get_or new k d).id).words
+                ∙ among (HasWords (own_slots job placed)) is.held.words k d below;
+            counts = λ id. omega (arith, (shares id).count, sum id, is.held.counts id);
+            alike = alike_among new whole among is.held.alike;
+          };
+          others = (laws.changes_join job).both old placed _ is.others
+              (laws.shares_change_only_their_job placed job (ids_of more) own);
+        }

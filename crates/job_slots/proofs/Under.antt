@@ -1,5 +1,5 @@
 -- What counts as held while an instruction's results are made.
-use Rattle.std.proofs.Common.{◌≡◌, ℕ, List, [], ◌∷◌, drop, sym, ◌∙◌, ap, arith}
+use Rattle.std.proofs.Common.{◌≡◌, ℕ, List, [], ◌∷◌, drop, arith}
 use Rattle.std.proofs.lemmas.List.{drop-map}
 use Rattle.vcode_base.specs.declared.rule.Rule.{Rule}
 use Rattle.vcode_base.specs.declared.rule.Rule.TheVariants.{First, Second}
@@ -8,14 +8,15 @@ use Rattle.vcode_reader.specs.Trees.{Item}
 use Rattle.refcounts.specs.Laws.{ReleasesAreCounted, ReleaseStaysTidy}
 use Rattle.refcounts.specs.SharedState.{SharedState, IsTidy, IsLive, AreNamed, state_after_release}
 use Rattle.refcounts.specs.SharedState.{state_after_releases}
-use Rattle.job_memory.specs.JobBlocks.{JobBlocks, own_slots, held_words}
+use Rattle.job_memory.specs.JobBlocks.{JobBlocks, own_slots}
 use Rattle.job_steps.specs.Motions.{operand_count, top_entries}
-use Rattle.job_steps.specs.States.{StackEntry, State, held_words as stack_words}
+use Rattle.job_steps.specs.States.{State}
 use Rattle.job_steps.specs.Steps.{held_at}
 use Rattle.job_slots.specs.Commits.{with_releases, held_under}
 use Rattle.job_slots.specs.Executions.{HeldIsCounted}
-use Rattle.job_slots.specs.Holdings.{Cell, ids_of, HoldStack}
-use Rattle.job_slots.proofs.Commits.{BlockLaws, without_top}
+use Rattle.job_slots.specs.Holdings.{ids_of, HoldStack}
+use Rattle.job_slots.proofs.Commits.{without_top}
+use Rattle.job_slots.proofs.Takes.{BlockLaws}
 use Rattle.job_slots.proofs.Holding.{held_is_stack, own_are_tidy, named_here, named_sum}
 use Rattle.job_slots.proofs.LettingGo.{own_named}
 
@@ -39,11 +40,8 @@ counted_by laws Second job blocks item s ids holds tidy =
     let is = without_top laws job blocks holds.cells holds.held n in
     let tidy_then : IsTidy (with_releases taken blocks).memory = tidy_after laws.release_stays_tidy
     laws.releases_are_counted blocks.memory taken (own_named job blocks.memory taken is.own) tidy in
-    ap (λ (xs : List ℕ). held_words job (with_releases (top_entries n xs) blocks)) holds.ids_are
-    ∙ (held_is_stack (own_slots job (with_releases taken blocks)) (drop n holds.cells) is.held
-    (own_are_tidy job (with_releases taken blocks).memory tidy_then)
-    ∙ (ap stack_words (sym (drop-map (λ (c : Cell). c.entry) n holds.cells))
-    ∙ ap (λ (es : List StackEntry). stack_words (drop n es)) (sym holds.entries_are)))
+    rw (holds.ids_are, holds.entries_are, drop-map) (held_is_stack (own_slots job (with_releases taken blocks))
+    (drop n holds.cells) is.held (own_are_tidy job (with_releases taken blocks).memory tidy_then))
 
 pub held_is_counted : BlockLaws → HeldIsCounted
 held_is_counted laws rule job blocks item s ids holds tidy = record {

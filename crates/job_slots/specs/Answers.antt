@@ -111,10 +111,9 @@ early_end_of task Stuck = None
 unfoldable pub early_end_at : Task → ℕ → Option Ending
 early_end_at task n = early_end_of task (state_after task n)
 
--- this instruction of this line, with these operands, is the next of a job
-pub record IsNext (task : Task) (n : ℕ) (op : Op) (line : ℕ) (sources : List (List ℤ)) : Type 0 where
-  pub question : question_at task n ≡ Some (question_by op sources)
-  pub line_is : line_at task n ≡ Some line
+-- this instruction with these operands is the next of a job
+abbrev pub IsNext : Task → ℕ → Op → List (List ℤ) → Type 0
+IsNext task n op sources = question_at task n ≡ Some (question_by op sources)
 
 -- this instruction can be asked of a desk of `words` words
 pub record CanAsk (words : ℕ) (op : Op) (sources : List (List ℤ)) : Type 0 where

@@ -16,7 +16,7 @@ use Rattle.job_steps.specs.Steps.{flag_of}
 use Rattle.job_steps.specs.Tickets.{AreResults, question_by}
 use Rattle.job_steps.specs.Tracks.{TrackState}
 use Rattle.job_slots.specs.declared.in_place.Placement.{Placement}
-use Rattle.job_slots.specs.Answers.{line_at, question_at}
+use Rattle.job_slots.specs.Answers.{question_at}
 use Rattle.job_slots.specs.Commits.{blocks_beside, taken_ids}
 use Rattle.job_slots.specs.Executions.{HasSettled}
 
@@ -70,7 +70,6 @@ pub record KeepsReferences (job : ℕ) (old new : JobBlocks) : Type 0 where
 -- results, of these numbers of words
 pub record IsPlaceable (task : Task) (job : ℕ) (blocks : JobBlocks) (t : TrackState ℕ) (p : Placement) : Type 0 where
   pub question : question_at task t.executed ≡ Some (question_by p.op (operands_in blocks p.op t.cells))
-  pub line_is : line_at task t.executed ≡ Some p.line
   pub flag_is : p.flag ≡ flag_of (question_by p.op (operands_in blocks p.op t.cells))
   pub can : CanCompute p.op (operands_in blocks p.op t.cells) (p.first, p.second)
   pub count : length (result_kinds p.op) ≡ result_count p.second

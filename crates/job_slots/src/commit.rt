@@ -13,8 +13,7 @@ ghost use Rattle.job_steps.specs.Motions.{operand_count, top_entries};
 ghost use Rattle.job_steps.specs.Runs.{state_after};
 ghost use Rattle.job_steps.specs.States.{ruled};
 ghost use Rattle.job_steps.specs.Tracks.{IsDeep};
-ghost use Rattle.job_slots.specs.Commits.{CanTake, IsExchanged, blocks_after_taking, blocks_beside, held_under};
-ghost use Rattle.job_slots.specs.Commits.{moved_ids, taken_ids};
+ghost use Rattle.job_slots.specs.Commits.{CanTake, IsExchanged, blocks_after_taking, held_under, moved_ids, taken_ids};
 ghost use Rattle.job_slots.specs.Executions.{CanSettle, CanShare, HasSettled, IsMade, ids_in};
 ghost use Rattle.job_slots.specs.Slots.{IsFlyingSlot, IsAfter};
 ghost use Rattle.job_slots.specs.Answers.{question_at};
@@ -151,7 +150,7 @@ pub(crate) fn held_under<A: Allocator>(
 }
 
 /// Takes the operands of an instruction off the blocks, and places its results.
-#[tactic(auto, using(crate::proofs::Placed::same_grants))]
+#[tactic(auto, using(crate::proofs::Placed::same_grants, crate::proofs::Operands::deep_enough))]
 fn settle<C: Class, A: Allocator>(
     turn: Turn,
     track: &Track<BlockId, A>,
@@ -179,6 +178,7 @@ fn settle<C: Class, A: Allocator>(
 }
 
 /// The same for an instruction of two results.
+#[tactic(auto, using(crate::proofs::Operands::deep_enough))]
 #[inline(never)]
 fn settle_two<A: Allocator>(
     turn: Turn,
@@ -306,6 +306,7 @@ pub(crate) fn place<A: Allocator>(
 }
 
 /// The cells at the top, of which there are at least `count`.
+#[tactic(auto, using(crate::proofs::Reversed::top_slice))]
 #[inline(always)]
 pub(crate) fn top(cells: &[BlockId], count: usize) -> &[BlockId]
     requires { count ≤ length cells.now }
@@ -315,6 +316,7 @@ pub(crate) fn top(cells: &[BlockId], count: usize) -> &[BlockId]
 }
 
 /// The `lower` cells that lie below the top `upper`.
+#[tactic(auto, using(crate::proofs::Reversed::moved_slice))]
 #[inline(always)]
 fn below_top(cells: &[BlockId], lower: usize, upper: usize) -> &[BlockId]
     requires { lower + upper ≤ length cells.now }

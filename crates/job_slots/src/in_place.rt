@@ -1,9 +1,8 @@
 //! Computing results where they are placed.
 
-ghost use Rattle.std.specs.Prelude.{◌≡◌, ◌+◌, ◌<◌, ◌≤◌, ℤ, List, length, map, false, IfSome, IfOk, IfErr, OnOk};
-ghost use Rattle.std.specs.Prelude.{OnErr, Some};
-ghost use Rattle.vcode_base.specs.declared.op.Op.TheVariants.{Return};
-ghost use Rattle.vcode_base.specs.declared.op.Op.TheVariants.{Segmented as SegmentedOp};
+ghost use Rattle.std.specs.Prelude.{◌≡◌, ◌+◌, ◌<◌, ◌≤◌, ℤ, List, length, map, false, IfSome, IfOk, IfErr, OnOk, OnErr};
+ghost use Rattle.std.specs.Prelude.{Some};
+ghost use Rattle.vcode_base.specs.declared.op.Op.TheVariants.{Return, Segmented as SegmentedOp};
 ghost use Rattle.vcode_base.specs.declared.op.Segmented.TheVariants.{DefaultPermute};
 ghost use Rattle.vcode_base.specs.Kinds.{result_kinds};
 ghost use Rattle.vcode_base.specs.Meaning.{value_fault};
@@ -15,6 +14,8 @@ ghost use Rattle.job_memory.specs.JobBlocks.{held_words};
 ghost use Rattle.job_steps.specs.EventLaws.{IsVerified};
 ghost use Rattle.job_steps.specs.Runs.{state_after};
 ghost use Rattle.job_steps.specs.States.{ruled};
+ghost use Rattle.job_steps.specs.Steps.{flag_of};
+ghost use Rattle.job_steps.specs.Tickets.{question_by};
 ghost use Rattle.job_slots.specs.Executions.{ids_in};
 ghost use Rattle.job_slots.specs.InPlace.{AreComputed, CanCompute, IsPlaceable, KeepsReferences, is_constant};
 ghost use Rattle.job_slots.specs.InPlace.{operands_in, result_count, with_third, words_by};
@@ -47,7 +48,6 @@ const LEAST: usize = 512;
 #[derive(Clone, Copy)]
 pub(crate) struct Placement {
     pub(crate) op: Op,
-    pub(crate) line: u64,
     /// How many words the first result has.
     pub(crate) first: usize,
     /// How many words the second result has, or 0 if there is none.
@@ -145,8 +145,8 @@ pub(crate) fn placement_of<A: Allocator>(
     requires running { IsRunningSlot (own_slots turn.number blocks.now) (ruled turn.rule job.now) track.now }
     requires verified { IsVerified (ruled turn.rule job.now) }
     requires is_job { IsJob blocks.now turn.number }
-    requires ready { (sources : List (List ℤ))
-        × IsReady (ruled turn.rule job.now) turn.number blocks.now track.now sources ready }
+    requires ready { (sources : List (List ℤ)) × IsReady (ruled turn.rule job.now) turn.number blocks.now track.now
+        ready.op sources ready.needs × (ready.flag ≡ flag_of (question_by ready.op sources)) }
     requires no_list { is_constant ready.op ≡ false }
     ensures { IfSome result (IsPlaceable (ruled turn.rule job.now) turn.number blocks.now track.now) }
 {
@@ -154,12 +154,7 @@ pub(crate) fn placement_of<A: Allocator>(
     held_is_counted();
     // By its type a memory has no block that no reference names.
     let _used = blocks.used();
-    let Ready {
-        op,
-        line,
-        flag,
-        needs,
-    } = ready;
+    let Ready { op, flag, needs } = ready;
     let first = needs.first as usize;
     let second = needs.second as usize;
     if first < LEAST {
@@ -174,7 +169,6 @@ pub(crate) fn placement_of<A: Allocator>(
     }
     Some(Placement {
         op,
-        line,
         first,
         second,
         flag,

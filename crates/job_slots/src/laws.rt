@@ -1,7 +1,7 @@
 //! Laws of slots. Each function does nothing, and its contract is the law.
 
-ghost use Rattle.job_slots.specs.Laws.{ShownIsAlone, OthersAreShown, NewIsShown, RecalledIsShown};
-ghost use Rattle.job_slots.specs.Laws.{ShownAreLive, ShownAreReached};
+ghost use Rattle.job_slots.specs.Laws.{ShownIsAlone, OthersAreShown, NewIsShown, RecalledIsShown, ShownAreLive};
+ghost use Rattle.job_slots.specs.Laws.{ShownAreReached};
 
 use job_steps::laws::{each_ends, reached};
 

@@ -47,11 +47,10 @@ impl<'a> Operands<'a> {
     }
 }
 
-/// An instruction, its line, and its operands.
+/// An instruction and its operands.
 #[derive(Clone, Copy)]
 pub(crate) struct Next<'a> {
     pub(crate) op: Op,
-    pub(crate) line: u64,
     pub(crate) operands: Operands<'a>,
 }
 
@@ -65,7 +64,7 @@ pub(crate) fn read_next<'a, A: Allocator>(
 ) -> Next<'a>
     requires running { IsRunningSlot (own_slots turn.number blocks.now) (ruled turn.rule job.now) track.now }
     requires verified { IsVerified (ruled turn.rule job.now) }
-    ensures next { IsNext (ruled turn.rule job.now) track.now.executed result.op result.line
+    ensures next { IsNext (ruled turn.rule job.now) track.now.executed result.op
         (contents (take result.operands.count result.operands.lists)) }
     ensures kinds { HaveKinds (source_kinds result.op) (contents (take result.operands.count result.operands.lists)) }
 {
@@ -74,7 +73,6 @@ pub(crate) fn read_next<'a, A: Allocator>(
     let op = op_of(&line);
     Next {
         op,
-        line: line.number,
         operands: operands_of(&line, list_of(&line), op, track, blocks),
     }
 }
@@ -112,7 +110,7 @@ pub(crate) fn settled_line<'a, A: Allocator>(
     track.settled_line(job.verified().program())
 }
 
-/// The next instruction of a job that runs, at whose line the track is, which is this one, and no `CONST`.
+/// The next instruction of a job that runs, which is this one, and no `CONST`.
 #[inline(always)]
 pub(crate) fn next_at<'a, A: Allocator>(
     turn: Turn,
@@ -123,24 +121,23 @@ pub(crate) fn next_at<'a, A: Allocator>(
 ) -> Next<'a>
     requires running { IsRunningSlot (own_slots turn.number blocks.now) (ruled turn.rule job.now) track.now }
     requires verified { IsVerified (ruled turn.rule job.now) }
-    requires settled { IsSettled (functions_of job.now.verified) track.now.frames }
     requires op { IsOpOfNext (ruled turn.rule job.now) track.now op }
     requires no_list { is_constant op ≡ false }
     ensures op { result.op ≡ op }
-    ensures next { IsNext (ruled turn.rule job.now) track.now.executed result.op result.line
+    ensures next { IsNext (ruled turn.rule job.now) track.now.executed result.op
         (contents (take result.operands.count result.operands.lists)) }
     ensures kinds { HaveKinds (source_kinds result.op) (contents (take result.operands.count result.operands.lists)) }
 {
     steps_can_begin::<BlockId>();
-    let line = settled_line(turn, job, track, blocks);
     Next {
         op,
-        line: line.number,
         operands: top_operands(op, track, blocks),
     }
 }
 
-/// The number of the line of the next instruction of a job that runs.
+/// The number of the line of the next instruction of a job that runs. Only an ending asks for it.
+#[cold]
+#[inline(never)]
 pub(crate) fn line_of_next<A: Allocator>(
     turn: Turn,
     job: &Job<A>,

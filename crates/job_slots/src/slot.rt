@@ -1,23 +1,21 @@
 //! A job with its place in its run.
 
-ghost use Rattle.std.specs.Prelude.{◌≡◌, ◌+◌, ◌<◌, ◌≤◌, ◌↔◌, ℕ, [], false, true, length, IsErr, IfOk, IfErr};
-ghost use Rattle.std.specs.Prelude.{OnOk, OnErr, None, Some, is_some, option_copied};
-ghost use Rattle.vcode_base.specs.declared.limits.TheConstants.{MOST_WORDS};
+ghost use Rattle.std.specs.Prelude.{◌≡◌, ◌+◌, ◌<◌, ◌≤◌, ◌↔◌, ℕ, [], false, true, length, IsErr, IfOk, OnOk, OnErr};
+ghost use Rattle.std.specs.Prelude.{None, Some, is_some, option_copied};
 ghost use Rattle.vcode_base.specs.declared.op.Op.TheVariants.{Return};
-ghost use Rattle.vcode_base.specs.declared.outcome.Outcome.TheVariants.{Returned};
+ghost use Rattle.vcode_base.specs.declared.outcome.Outcome.TheVariants.{Fault, Returned};
 ghost use Rattle.vcode_base.specs.declared.op.Op.TheVariants as instruction;
-ghost use Rattle.vcode_base.specs.Meaning.{value_fault};
 ghost use Rattle.refcounts.specs.SharedState.{block_count};
 ghost use Rattle.job_memory.specs.JobBlocks.{HasGrant, ChangesOnlyOf, granted_words, own_slots};
 ghost use Rattle.job_steps.specs.declared.event.Event.TheVariants as event;
 ghost use Rattle.job_steps.specs.EventLaws.{IsVerified};
 ghost use Rattle.job_steps.specs.Events.{next_standing};
 ghost use Rattle.job_steps.specs.Frames.{IsSettled};
-ghost use Rattle.job_steps.specs.Runs.{outcome, executed_count, peak, state_after};
+ghost use Rattle.job_steps.specs.Runs.{outcome, peak, state_after};
 ghost use Rattle.job_steps.specs.Standings.{Live, InFlight, Ended};
 ghost use Rattle.job_steps.specs.States.{ruled};
 ghost use Rattle.job_steps.specs.Tracks.{functions_of};
-ghost use Rattle.job_slots.specs.Answers.{EndsByStep, demand_in, early_end_at, told_demand_in, told_need_in};
+ghost use Rattle.job_slots.specs.Answers.{EndsByStep, demand_in, early_end_at, line_at, told_demand_in, told_need_in};
 ghost use Rattle.job_slots.specs.Executions.{IsMade};
 ghost use Rattle.job_slots.specs.Lines.{HasNoOperands, IsListOfNext, IsOpOfNext};
 ghost use Rattle.job_slots.specs.declared.status.Status.TheVariants as status;
@@ -25,11 +23,10 @@ ghost use Rattle.job_slots.specs.declared.answer.Finished.TheVariants as finishe
 ghost use Rattle.job_slots.specs.declared.answer.Stepped.TheVariants as stepped;
 ghost use Rattle.job_slots.specs.InPlace.{IsPlaceable, is_constant};
 ghost use Rattle.job_slots.specs.Holdings.{HoldSomeStack, HoldNothing};
-ghost use Rattle.job_slots.specs.Slots.{Shows, Leaves, IsActive, IsNewSlot, IsReturned, standing_of, told_outcome};
+ghost use Rattle.job_slots.specs.Slots.{Shows, Leaves, IsNewSlot, IsReturned, standing_of, told_outcome};
 ghost use Rattle.job_slots.specs.Slots.{HasNumbersOnRun, MayEnd, recalled_slot};
-ghost use Rattle.job_slots.specs.Answers.{Begins, IsPutOff, Finishes, Fits, IsEnding, is_ended, is_in_flight};
-ghost use Rattle.job_slots.specs.Answers.{HasRun, is_live, or_same, question_at, standing_after_begun};
-ghost use Rattle.job_slots.specs.Answers.{standing_after_finished};
+ghost use Rattle.job_slots.specs.Answers.{Begins, IsPutOff, Finishes, Fits, IsEnding, is_ended, is_in_flight, HasRun};
+ghost use Rattle.job_slots.specs.Answers.{is_live, or_same, question_at, standing_after_begun, standing_after_finished};
 ghost use Rattle.job_slots.specs.Answers.{CanStep, Steps, TakesStep, IsPassedOver, after_stepped, standing_after_step};
 
 use crate::answer::{Begun, Finished, Stepped};
@@ -40,7 +37,7 @@ use crate::in_place::{Due, Placement, execute_in_place, placement_of};
 use crate::next::{is_asked, line_of_next, next_at, read_next, settled_line};
 use crate::status::Status;
 use crate::ticket::{
-    Halted, Plain, Ready, demand_of, need_of, ready_for, ticket_of, words_without_operands,
+    Halted, Plain, Ready, demand_of, need_of, needs_or_end, ticket_of, words_without_operands,
 };
 use crate::turn::Turn;
 use block_memory::BlockId;
@@ -514,7 +511,6 @@ impl<A: Allocator> Slot<A> {
     }
 
     /// Carries out the next instruction of a job that is live, which is this one. It is compiled for each class apart.
-    /// It looks up the line itself, since a line that is lent is written to memory at each step.
     fn step_as<C: Class>(
         &mut self,
         turn: Turn,
@@ -536,22 +532,20 @@ impl<A: Allocator> Slot<A> {
         end_is_own();
         results_have_needed_lengths();
         steps_can_begin::<BlockId>();
-        let next = next_at(turn, job, &self.track, blocks, class.op());
-        let ready = match ready_for(turn, job, &self.track, blocks, &next) {
+        let op = class.op();
+        let next = next_at(turn, job, &self.track, blocks, op);
+        let needs = match needs_or_end(turn, job, &self.track, blocks, &next) {
             Err(ending) => return self.end_by_step(turn, job, blocks, ending),
-            Ok(ready) => ready,
+            Ok(needs) => needs,
         };
+        let operands = next.operands.as_slice();
+        let flag = flag(operands);
+        let ready = Ready { op, flag, needs };
         if let Some(placement) = placement_of(turn, job, &self.track, blocks, ready) {
             let beside = desk.lend(placement.second);
             return self.step_in_place(turn, job, blocks, placement, beside);
         }
-        let Ready {
-            op,
-            line,
-            flag,
-            needs,
-        } = ready;
-        match desk.fill(op, next.operands.as_slice(), (needs.first, needs.second)) {
+        match desk.fill(op, operands, (needs.first, needs.second)) {
             Ok((first, second)) => {
                 let made = Made {
                     op,
@@ -562,7 +556,7 @@ impl<A: Allocator> Slot<A> {
                 };
                 self.carry_out::<C>(turn, job, blocks, made)
             }
-            Err(fault) => self.end_by_step(turn, job, blocks, Outcome::Fault(fault, line)),
+            Err(fault) => self.end_by_fault(turn, job, blocks, fault),
         }
     }
 
@@ -613,13 +607,35 @@ impl<A: Allocator> Slot<A> {
     {
         early_ends_end();
         let next = read_next(turn, job, &self.track, blocks);
-        let Err(ending) = ready_for(turn, job, &self.track, blocks, &next) else {
+        let Err(ending) = needs_or_end(turn, job, &self.track, blocks, &next) else {
             unreachable!()
         };
         self.end_by_step(turn, job, blocks, ending)
     }
 
+    /// Ends the job, which is live, by this fault in the values of its next instruction's operands.
+    #[cold]
+    #[inline(never)]
+    fn end_by_fault(
+        &mut self,
+        turn: Turn,
+        job: &Job<A>,
+        blocks: &mut JobMemory<A>,
+        fault: DataFault,
+    ) -> bool
+        requires can { CanStep turn.number (ruled turn.rule job.now) self.old blocks.old }
+        requires ends { (line : ℕ) → line_at (ruled turn.rule job.now) self.old.trace.executed ≡ Some line
+            → EndsByStep turn.number (ruled turn.rule job.now) self.old.trace.executed self.old.trace.peak
+            (Fault fault line) }
+        ensures { TakesStep turn.number (ruled turn.rule job.now) self.old.trace.executed blocks.old self.new blocks.new
+            result }
+    {
+        let line = line_of_next(turn, job, &self.track, blocks);
+        self.end_by_step(turn, job, blocks, Outcome::Fault(fault, line))
+    }
+
     /// Ends the job, which is live, as its next instruction ends it: the job doesn't go on.
+    #[tactic(auto, using(crate::proofs::OneGo::ended_by, crate::proofs::Overlaid::may_end))]
     #[cold]
     #[inline(never)]
     fn end_by_step(
@@ -661,10 +677,10 @@ impl<A: Allocator> Slot<A> {
         end_is_own();
         others_are_ready();
         changes_join();
-        let Placement { op, line, .. } = placement;
+        let line = line_of_next(turn, job, &self.track, blocks);
         let due = Due { turn, placement };
         match execute_in_place(due, job, &mut self.track, blocks, beside) {
-            Ok(()) => self.go_on(op),
+            Ok(()) => self.go_on(placement.op),
             Err(fault) => {
                 self.end(turn, job, blocks, Outcome::Fault(fault, line));
                 false
@@ -693,7 +709,7 @@ impl<A: Allocator> Slot<A> {
     ///
     /// [`AllocError`] if memory for copies of the results was refused, which comes only at a job that returned. Nothing
     /// changes then.
-    #[tactic(auto, using(crate::proofs::Holding::words_of_none))]
+    #[tactic(auto, using(crate::proofs::Holding::words_of_none, crate::proofs::Collecting::ended_holds))]
     pub fn collect(
         &mut self,
         turn: Turn,

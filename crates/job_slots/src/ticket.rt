@@ -1,7 +1,7 @@
 //! The ticket of a job's next step.
 
-ghost use Rattle.std.specs.Prelude.{◌≡◌, ◌+◌, ◌<◌, ◌≤◌, ◌^◌, true, length, take, is_some, MatchOption, MatchResult};
-ghost use Rattle.std.specs.Prelude.{None, Some};
+ghost use Rattle.std.specs.Prelude.{◌≡◌, ◌+◌, ◌<◌, ◌≤◌, true, length, take, is_some, MatchOption, MatchResult, None};
+ghost use Rattle.std.specs.Prelude.{Some};
 ghost use Rattle.vcode_base.specs.declared.limits.TheConstants.{MOST_WORDS};
 ghost use Rattle.vcode_base.specs.Kinds.{HaveKinds, source_kinds};
 ghost use Rattle.vcode_base.specs.Meaning.{shape};
@@ -12,25 +12,25 @@ ghost use Rattle.job_steps.specs.Motions.{depth_after};
 ghost use Rattle.job_steps.specs.Questions.{need_words};
 ghost use Rattle.job_steps.specs.Runs.{state_after};
 ghost use Rattle.job_steps.specs.States.{ruled};
-ghost use Rattle.job_steps.specs.Steps.{ending_by, memory_fault};
+ghost use Rattle.job_steps.specs.Steps.{memory_fault};
 ghost use Rattle.job_steps.specs.Tickets.{question_by};
 ghost use Rattle.job_slots.specs.Slots.{IsRunningSlot};
 ghost use Rattle.job_slots.specs.Answers.{IsAskedOf, IsNext, demand_in, early_end_at, told_demand, told_demand_in};
 ghost use Rattle.job_slots.specs.Answers.{told_need_in};
 ghost use Rattle.job_slots.specs.Commits.{CountsAs, held_under};
 ghost use Rattle.job_slots.specs.Lines.{HasNoOperands, IsListOfNext, IsOpOfNext};
-ghost use Rattle.job_slots.specs.Needs.{AreFoundNeeds, IsReady, words_with};
+ghost use Rattle.job_slots.specs.Needs.{AreFoundNeeds, IsReady, early_fault, ending_of, words_with};
 
 use crate::commit::held_under;
 use crate::execution::held_is_counted;
-use crate::next::{Next, read_next};
+use crate::next::{Next, line_of_next, read_next};
 use crate::turn::Turn;
 use block_memory::BlockId;
 use job_memory::JobMemory;
 use job_steps::laws::{reached, steps_can_advance, steps_can_begin};
-use job_steps::{Desk, Job, Ticket, Track, flag, lengths};
+use job_steps::{Desk, Job, Ticket, Track, lengths};
 use std::alloc::Allocator;
-use vcode_base::{Op, Outcome, Values};
+use vcode_base::{DataFault, MemoryFault, Op, Outcome, Values};
 
 /// What an instruction needs: the words of its first and second result, and those that are held and needed at it.
 #[derive(Clone, Copy)]
@@ -44,7 +44,6 @@ pub(crate) struct Needs {
 #[derive(Clone, Copy)]
 pub(crate) struct Ready {
     pub(crate) op: Op,
-    pub(crate) line: u64,
     /// Whether the first word of the first operand is other than 0.
     pub(crate) flag: bool,
     pub(crate) needs: Needs,
@@ -55,6 +54,26 @@ pub(crate) struct Ready {
 pub(crate) struct Plain<'a> {
     pub(crate) op: Op,
     pub(crate) list: &'a [i64],
+}
+
+/// What ends a job before the values of its next instruction are looked at, by the instruction itself: operands that
+/// don't fit one another, or a limit.
+#[derive(Clone, Copy)]
+pub(crate) enum EarlyFault {
+    Shape(DataFault),
+    Limit(MemoryFault),
+}
+
+impl EarlyFault {
+    /// How it ends a job at this line.
+    fn at<A: Allocator>(self, line: u64) -> Outcome<Values<A>>
+        ensures { result ≡ ending_of self line }
+    {
+        match self {
+            EarlyFault::Shape(fault) => Outcome::Fault(fault, line),
+            EarlyFault::Limit(fault) => Outcome::Memory(fault, line),
+        }
+    }
 }
 
 /// How a job ends before its next instruction, with the desk that was meant for it.
@@ -83,7 +102,7 @@ pub(crate) fn ticket_of<A: Allocator>(
         × (halted.desk ≡ desk)) }
 {
     let next = read_next(turn, job, track, blocks);
-    match ready_for(turn, job, track, blocks, &next) {
+    match needs_or_end(turn, job, track, blocks, &next) {
         Err(ending) => Err(Halted { ending, desk }),
         Ok(_) => {
             let operands = next.operands.as_slice();
@@ -92,26 +111,26 @@ pub(crate) fn ticket_of<A: Allocator>(
     }
 }
 
-/// The next instruction of a job that runs, with what it needs, or how the job ends before the values of its operands
-/// are looked at.
+/// What the next instruction of a job that runs needs, or how the job ends before the values of its operands are looked
+/// at.
 #[inline(always)]
-pub(crate) fn ready_for<A: Allocator>(
+pub(crate) fn needs_or_end<A: Allocator>(
     turn: Turn,
     job: &Job<A>,
     track: &Track<BlockId, A>,
     blocks: &JobMemory<A>,
     next: &Next<'_>,
-) -> Result<Ready, Outcome<Values<A>>>
+) -> Result<Needs, Outcome<Values<A>>>
     requires running { IsRunningSlot (own_slots turn.number blocks.now) (ruled turn.rule job.now) track.now }
     requires verified { IsVerified (ruled turn.rule job.now) }
     requires has_grant { HasGrant blocks.now turn.number }
-    requires next { IsNext (ruled turn.rule job.now) track.now.executed next.now.op next.now.line
+    requires next { IsNext (ruled turn.rule job.now) track.now.executed next.now.op
         (contents (take next.now.operands.count next.now.operands.lists)) }
     requires kinds { HaveKinds (source_kinds next.now.op)
         (contents (take next.now.operands.count next.now.operands.lists)) }
     ensures { MatchResult result
-        (λ ready. (ready.op ≡ next.now.op) × IsReady (ruled turn.rule job.now) turn.number blocks.now track.now
-        (contents (take next.now.operands.count next.now.operands.lists)) ready)
+        (IsReady (ruled turn.rule job.now) turn.number blocks.now track.now next.now.op
+        (contents (take next.now.operands.count next.now.operands.lists)))
         (λ ending. early_end_at (ruled turn.rule job.now) track.now.executed ≡ Some ending) }
 {
     steps_can_begin::<BlockId>();
@@ -124,38 +143,33 @@ pub(crate) fn ready_for<A: Allocator>(
     let _used = blocks.used();
     let held = held_under(turn, track, blocks, next.op);
     match needs_beside(track, held, next) {
-        Err(ending) => Err(ending),
-        Ok(needs) => Ok(Ready {
-            op: next.op,
-            line: next.line,
-            flag: flag(next.operands.as_slice()),
-            needs,
-        }),
+        Err(fault) => Err(fault.at(line_of_next(turn, job, track, blocks))),
+        Ok(needs) => Ok(needs),
     }
 }
 
-/// What an instruction needs, if `held` words are held, or its ending by a shape or a limit.
+/// What an instruction needs, if `held` words are held, or what ends the job before.
 #[inline(always)]
 fn needs_beside<A: Allocator>(
     track: &Track<BlockId, A>,
     held: usize,
     next: &Next<'_>,
-) -> Result<Needs, Outcome<Values<A>>>
+) -> Result<Needs, EarlyFault>
     requires words { track.now.limits.words ≤ MOST_WORDS }
     requires kinds { HaveKinds (source_kinds next.now.op)
         (contents (take next.now.operands.count next.now.operands.lists)) }
     ensures { let sources = contents (take next.now.operands.count next.now.operands.lists) in
         AreFoundNeeds held (question_by next.now.op sources)
-        (ending_by next.now.line (shape next.now.op sources)
+        (early_fault (shape next.now.op sources)
         (memory_fault track.now.limits next.now.op (held + need_words (question_by next.now.op sources))
         (depth_after next.now.op (length track.now.cells)) (length track.now.frames))) result }
 {
     match lengths(next.op, next.operands.as_slice()) {
-        Err(fault) => Err(Outcome::Fault(fault, next.line)),
+        Err(fault) => Err(EarlyFault::Shape(fault)),
         Ok((first, second)) => {
             let words = (held as u64).saturating_add(first).saturating_add(second);
             match track.memory_fault(next.op, words) {
-                Some(fault) => Err(Outcome::Memory(fault, next.line)),
+                Some(fault) => Err(EarlyFault::Limit(fault)),
                 None => Ok(Needs {
                     first,
                     second,

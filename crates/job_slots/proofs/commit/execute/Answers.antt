@@ -1,9 +1,7 @@
 -- An instruction whose results are given is executed: the track goes past it, and its blocks have the results.
-use Rattle.std.proofs.Common.{◌+◌, length, refl, ap, arith}
+use Rattle.std.proofs.Common.{refl, ap, arith}
 use Rattle.job_memory.specs.JobBlocks.{words_of}
 use Rattle.job_steps.specs.States.{ruled}
-use Rattle.job_steps.specs.Tracks.{Advances}
-use Rattle.job_slots.specs.Commits.{held_under}
 use Rattle.job_slots.specs.Executions.{IsExecuted, CanExecute}
 use Rattle.job_slots.proofs.Executed.{executed_past}
 use Rattle.job_slots.proofs.commit.execute.Given.{Over}
@@ -33,28 +31,15 @@ settle-results-requires-clause-can g c =
 pub advance_settled-requires : goal.advance_settled-requires
 advance_settled-requires g c =
     let past = (can g (goal.at.advance_settled-requires g c).After-used-used).goes_past in
-    record {
-      budget = past.unspent;
-      deep = past.deep;
-      given = omega (arith, ap length c.as_slice.ensures, c.settle-results.ensures.settled.1.given);
-      cells = past.cells;
-      calls = past.follows;
-      settled = c.requires.flying.settled;
-    }
-
--- the track goes past as if what is held and needed counted
-counted : (g : Over) (c : goal.After-advance_settled g) →
-    Advances c.args.job.now.verified c.args.made.op c.args.made.flag c.as_slice.result.now
-    (held_under c.args.turn.rule c.args.turn.number c.args.made.op c.args.track.now.cells c.args.blocks.now + length
-    c.args.made.first.now + length c.args.made.second.now) c.args.track.now c.advance_settled.new.self
-counted g c = grind arith
+    let given = c.settle-results.ensures.settled.1.given in
+    grind arith
 
 -- the instruction is executed
 executed : (g : Over) (c : goal.After-advance_settled g) → IsExecuted c.args.turn.number c.args.blocks.now
     c.settle-results.new.blocks (ruled c.args.turn.rule c.args.job.now) c.args.track.now c.advance_settled.new.self
 executed g c =
     executed_past (can g (goal.at.returns-clause-after g c).After-used-used) c.settle-results.ensures.settled.1 refl
-    (rw (← c.as_slice.ensures) (counted g c))
+    (rw (← c.as_slice.ensures) (grind arith))
 
 pub returns-clause-after : goal.returns-clause-after
 returns-clause-after g c = (executed g c).after

@@ -21,12 +21,10 @@ can g c =
     c.steps_execute.ensures _ _ _ _ _ _ _ _ c.requires.flying c.requires.verified c.used-used.ensures.tidy
     (answered g c)
 
-pub held_under-requires-clause-own : goal.held_under-requires-clause-own
-held_under-requires-clause-own g c = (can g (goal.at.held_under-requires-clause-own g c).After-flag-flag).can_settle.own
-
-pub held_under-requires-clause-deep : goal.held_under-requires-clause-deep
-held_under-requires-clause-deep g c =
-    deep_enough c.op-op.result _ (can g (goal.at.held_under-requires-clause-deep g c).After-flag-flag).can_settle.deep
+pub held_under-requires : goal.held_under-requires
+held_under-requires g c =
+    let known = (can g (goal.at.held_under-requires g c).After-flag-flag).can_settle in
+    record { has_grant = c.requires.has_grant; deep = deep_enough c.op-op.result _ known.deep; own = known.own }
 
 pub overflow_add-words : goal.overflow_add-words
 overflow_add-words g c =

@@ -1,9 +1,5 @@
 use Rattle.std.proofs.Common.{sym}
-use Rattle.job_slots.proofs.Operands.{deep_enough}
 use Rattle.job_slots.proofs.commit.settle_two.Goals as goal
-
-pub exchange-below-requires-clause-deep : goal.exchange-below-requires-clause-deep
-exchange-below-requires-clause-deep g c = deep_enough c.args.made.op _ c.requires.can.deep
 
 pub returns-clause-settled : goal.returns-clause-settled
 returns-clause-settled g c = (

@@ -1,12 +1,11 @@
 -- New blocks with the results come in the place of the operands.
-use Rattle.std.proofs.Common.{◌≡◌, ◌∙◌, ◌-◌, ℕ, zero, suc, false, List, Option, None, length, refl, sym, ap, arith}
+use Rattle.std.proofs.Common.{◌≡◌, ◌∙◌, ℕ, false, length, refl, sym, ap, arith, zero, suc}
 use Rattle.std.proofs.lemmas.Bool.Decides.{nat_tests}
-use Rattle.std.specs.Prelude.{◌==◌, slice_index_or}
+use Rattle.std.specs.Prelude.{◌==◌}
+use Rattle.vcode_base.specs.declared.rule.Rule.{Rule}
 use Rattle.vcode_base.specs.declared.rule.Rule.TheVariants.{First}
-use Rattle.job_memory.specs.JobBlocks.{grant_of, words_of}
 use Rattle.job_slots.specs.InPlace.{result_count}
-use Rattle.job_slots.proofs.Exchanges.{HasExchanged, HasReplaced, ReleaseLaws, nothing_in, own_are_live, own_still}
-use Rattle.job_slots.proofs.Exchanges.{placed_and_released, placed_before}
+use Rattle.job_slots.proofs.Exchanges.{HasReplaced, nothing_in, own_are_live, own_still, placed_and_released}
 use Rattle.job_slots.proofs.InPlace.{one_computed, two_computed}
 use Rattle.job_slots.proofs.in_place.compute_anew.Given.{Over}
 use Rattle.job_slots.proofs.in_place.compute_anew.Goals as goal
@@ -22,36 +21,23 @@ release_all-requires-clause-own g c =
     own_still c.args.turn.number c.args.blocks.now c.place_with.new.self c.in-Ok.first placed.words c.args.operands.now
     placed.empty placed.placed c.requires.own
 
-laws : (g : Over) (c : After-release_all g) → ReleaseLaws
-laws g c =
-    record { only_free = c.releases_only_free.ensures; only_their_job = c.releases_change_only_their_job.ensures }
-
--- the first result, in the place of the operands
-exchanged : (g : Over) (c : After-release_all g) → HasExchanged First c.args.turn.number c.args.operands.now
+-- the first result comes in the place of the operands
+replaced : (g : Over) (c : After-release_all g) (rule : Rule) → HasReplaced rule c.args.turn.number c.args.operands.now
     c.in-Ok.first c.in-Ok.ensures.placed.words c.args.blocks.now c.release_all.new.self
-exchanged g c =
+replaced g c rule =
     let placed = c.in-Ok.ensures.placed in
-    placed_and_released (laws g c) _ _ _ _ _ _ _ _ _ refl placed.in_range placed.empty placed.placed refl
+    placed_and_released (assumption) _ _ _ _ _ _ _ _ _ placed.in_range placed.empty placed.placed refl
     c.release_all.ensures c.requires.own
-
-replaced : (g : Over) (c : After-release_all g) → HasReplaced c.args.turn.rule c.args.turn.number c.args.operands.now
-    c.in-Ok.first c.in-Ok.ensures.placed.words c.args.blocks.now c.release_all.new.self
-replaced g c = placed_before (laws g c) _ _ _ _ _ _ _ c.requires.own (exchanged g c)
-
-grants : (g : Over) (c : After-release_all g) → words_of (grant_of c.release_all.new.self c.args.turn.number) ≡ words_of
-    (grant_of c.args.blocks.now c.args.turn.number)
-grants g c =
-    ap (λ (all : List (Option ℕ)). words_of (slice_index_or all (c.args.turn.number - 1) None)) (exchanged g c).grants
 
 pub place-second-requires-clause-numbers : goal.place-second-requires-clause-numbers
 place-second-requires-clause-numbers g c =
-    let has = exchanged g (goal.at.place-second-requires-clause-numbers g c).After-release_all in
+    let has = replaced g (goal.at.place-second-requires-clause-numbers g c).After-release_all First in
     omega (arith, has.count, has.numbers, c.requires.numbers)
 
 pub place-second-requires-clause-room : goal.place-second-requires-clause-room
 place-second-requires-clause-room g c =
-    let at = (goal.at.place-second-requires-clause-room g c).After-release_all in
-    omega (arith, (exchanged g at).held, grants g at, c.in-Ok.ensures.placed.long, c.requires.room)
+    let has = replaced g (goal.at.place-second-requires-clause-room g c).After-release_all First in
+    rw has.grants (omega (arith, has.held, c.in-Ok.ensures.placed.long, c.requires.room))
 
 pub returns-then-is_empty-clause-computed : goal.returns-then-is_empty-clause-computed
 returns-then-is_empty-clause-computed g c =
@@ -60,7 +46,8 @@ returns-then-is_empty-clause-computed g c =
     let none : length c.place_with.new.beside ≡ 0 =
     ap length (nothing_in _ (sym c.is_empty.ensures ∙ c.if-is_empty.true)) in
     let none_before : length c.args.beside.now ≡ 0 = omega (arith, c.place_with.auto.beside, none) in
-    one_computed _ _ _ _ _ _ _ _ _ (replaced g at) placed.so (c.requires.count ∙ ap result_count none_before) none
+    one_computed _ _ _ _ _ _ _ _ _ (replaced g at c.args.turn.rule) placed.so
+    (c.requires.count ∙ ap result_count none_before) none
 
 some_count : (second : ℕ) → (second == 0) ≡ false → result_count second ≡ 2
 some_count zero some = absurd (grind (arith, nat_tests))
@@ -71,6 +58,6 @@ returns-else-is_empty-clause-computed g c =
     let at = (goal.at.returns-else-is_empty-clause-computed g c).After-release_all in
     let placed = c.in-Ok.ensures.placed in
     let same : length c.args.beside.now ≡ length c.place_with.new.beside = omega (arith, c.place_with.auto.beside) in
-    two_computed _ _ _ _ _ _ _ _ _ (replaced g at) placed.so _ _
+    two_computed _ _ _ _ _ _ _ _ _ (replaced g at c.args.turn.rule) placed.so _ _
     (c.requires.count ∙ (ap result_count same ∙ some_count _ (sym c.is_empty.ensures ∙ c.if-is_empty.false)))
     c.place-second.ensures.fresh.0 c.place-second.ensures.fresh.1 c.place-second.ensures.placed

@@ -1,5 +1,5 @@
 -- The block of the default is written over with the result, and the other operands are released.
-use Rattle.std.proofs.Common.{◌≡◌, ◌≤◌, ◌∙◌, ℤ, List, [], length, map, refl, ap, sym, subst, arith}
+use Rattle.std.proofs.Common.{◌≡◌, ◌≤◌, ◌∙◌, [], length, map, refl, ap, arith}
 use Rattle.std.proofs.lemmas.List.{length-map}
 use Rattle.vcode_base.specs.declared.kind.Scalar.{Scalar}
 use Rattle.vcode_base.specs.declared.kind.Scalar.TheVariants.{Int, Bool}
@@ -9,10 +9,9 @@ use Rattle.vcode_base.specs.declared.op.Segmented.TheVariants.{DefaultPermute}
 use Rattle.vcode_base.specs.Kinds.{result_kinds}
 use Rattle.vcode_base.specs.Meaning.{value_fault}
 use Rattle.refcounts.specs.Making.{words_at}
-use Rattle.refcounts.specs.SharedState.{IsLive, AreLive, occurrences}
-use Rattle.job_steps.specs.Tickets.{AreResults, question_by}
+use Rattle.refcounts.specs.SharedState.{IsLive, occurrences}
 use Rattle.job_slots.specs.InPlace.{with_third}
-use Rattle.job_slots.proofs.Exchanges.{own_are_live, placed_after}
+use Rattle.job_slots.proofs.Exchanges.{own_are_live, released_and_placed}
 use Rattle.job_slots.proofs.InPlace.{one_computed}
 use Rattle.job_slots.proofs.LettingGo.{own_named}
 use Rattle.job_slots.proofs.Overlaid.{default_listed, keeps_references, others_differ, others_too, words_with_third}
@@ -27,8 +26,8 @@ listed g c = rw c.requires.are (default_listed c.args.default c.args.others c.re
 lists : (g : Over) (c : After-changes_join g) → map (words_at c.args.blocks.now.memory) c.args.operands.now ≡ with_third
     [] (map (words_at c.args.blocks.now.memory) c.args.others) (words_at c.args.blocks.now.memory c.args.default)
 lists g c =
-    ap (map (words_at c.args.blocks.now.memory)) c.requires.are
-    ∙ words_with_third (words_at c.args.blocks.now.memory) c.args.default c.args.others c.requires.four
+    rw c.requires.are
+    (words_with_third (words_at c.args.blocks.now.memory) c.args.default c.args.others c.requires.four)
 
 pub exchange_with-requires-clause-listed : goal.exchange_with-requires-clause-listed
 exchange_with-requires-clause-listed g c =
@@ -38,8 +37,7 @@ pub exchange_with-requires-clause-live : goal.exchange_with-requires-clause-live
 exchange_with-requires-clause-live g c =
     let m = c.args.blocks.now.memory in
     others_too (IsLive m) c.args.default c.args.others c.requires.four
-    (subst (AreLive m) c.requires.are
-    (own_are_live c.args.turn.number c.args.blocks.now c.args.operands.now c.requires.own))
+    (rw c.requires.are at (own_are_live c.args.turn.number c.args.blocks.now c.args.operands.now c.requires.own))
 
 pub exchange_with-requires-clause-others : goal.exchange_with-requires-clause-others
 exchange_with-requires-clause-others g c =
@@ -65,15 +63,10 @@ returns-in-Ok-clause-computed g c =
     let at = (goal.at.returns-in-Ok-clause-computed g c).After-changes_join in
     let e = c.in-Ok.ensures.exchanged in
     let op : Op = SegmentedOp (DefaultPermute c.args.scalar) in
-    let replaced = placed_after (record {
-      only_free = c.releases_only_free.ensures;
-      only_their_job = c.releases_change_only_their_job.ensures;
-    }) c.args.turn.rule c.args.turn.number c.args.operands.now c.args.default e.words c.args.blocks.now
-    c.exchange_with.new.self c.exchange_with.ensures.fresh.0 c.exchange_with.ensures.fresh.1 c.requires.own
-    e.rewritten in
-    one_computed _ _ op _ _ _ [] _ _ replaced
-    (subst (λ (xs : List (List ℤ)). AreResults (question_by op xs) e.words []) (sym (lists g at)) e.so)
-    (one c.args.scalar) refl
+    let replaced = released_and_placed (assumption) c.args.turn.rule c.args.turn.number c.args.operands.now _
+    c.args.default e.words c.args.blocks.now c.exchange_with.new.self c.exchange_with.ensures.fresh.0
+    c.exchange_with.ensures.fresh.1 refl e.rewritten c.requires.own in
+    one_computed _ _ op _ _ _ [] _ _ replaced (rw (lists g at) e.so) (one c.args.scalar) refl
 
 pub returns-in-Err-clause-fault : goal.returns-in-Err-clause-fault
 returns-in-Err-clause-fault g c =

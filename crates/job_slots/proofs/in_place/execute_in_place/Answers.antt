@@ -1,5 +1,5 @@
 -- An instruction is executed by computing its results from the blocks of its operands.
-use Rattle.std.proofs.Common.{◌≡◌, ◌∙◌, ◌+◌, ℕ, List, length, map, take, reverse, refl, sym, ap, arith, length-take}
+use Rattle.std.proofs.Common.{◌≡◌, ◌∙◌, ◌+◌, ℕ, List, length, map, refl, sym, ap, arith, length-take}
 use Rattle.std.proofs.lemmas.List.{length-reverse, reverse-reverse}
 use Rattle.vcode_base.specs.declared.rule.Rule.TheVariants.{Second}
 use Rattle.vcode_base.specs.Meaning.{value_fault}
@@ -7,9 +7,9 @@ use Rattle.refcounts.specs.Making.{words_at}
 use Rattle.job_memory.specs.JobBlocks.{held_words, words_of}
 use Rattle.job_steps.specs.States.{ruled}
 use Rattle.job_steps.specs.Tickets.{AreResults, question_by}
-use Rattle.job_slots.specs.Commits.{blocks_beside, held_under, taken_ids}
+use Rattle.job_slots.specs.Commits.{held_under, taken_ids}
 use Rattle.job_slots.specs.Executions.{CanExecute, HasSettled, IsExecuted, ids_in}
-use Rattle.job_slots.specs.InPlace.{operands_in, result_count, words_by}
+use Rattle.job_slots.specs.InPlace.{operands_in, result_count}
 use Rattle.job_slots.proofs.Executed.{executed_past}
 use Rattle.job_slots.proofs.InPlace.{computed_long}
 use Rattle.job_slots.proofs.Operands.{few_operands}
@@ -74,14 +74,8 @@ pub advance_settled-requires : goal.advance_settled-requires
 advance_settled-requires g c =
     let at = (goal.at.advance_settled-requires g c).In-Ok in
     let past = (can g at).goes_past in
-    record {
-      budget = past.unspent;
-      deep = past.deep;
-      given = ap length c.as_slice.ensures ∙ (settled g at).given;
-      cells = past.cells;
-      calls = past.follows;
-      settled = c.requires.flying.settled;
-    }
+    let given = (settled g at).given in
+    grind arith
 
 executed : (g : Over) (c : goal.After-advance_settled g) → IsExecuted c.args.due.turn.number c.args.blocks.now
     c.compute.new.blocks (ruled c.args.due.turn.rule c.args.job.now) c.args.track.now c.advance_settled.new.self
@@ -96,11 +90,9 @@ executed g c =
     here.second (results g at) in
     let before : c.held-held.result + p.first + p.second ≡ old + length here.first + length here.second =
     omega (arith, ap (λ (n : ℕ × ℕ). n.0) long, ap (λ (n : ℕ × ℕ). n.1) long) in
-    let words : c.words_by-words.result ≡ all = c.words_by-words.ensures ∙ (ap (λ (n : ℕ). words_by c.args.due.turn.rule
-    n c.held.result) before ∙ (ap (λ (n : ℕ). words_by c.args.due.turn.rule (old + length here.first + length
-    here.second) n) c.held.ensures.value ∙ (here.counted ∙ ap (λ (ids : List ℕ). held_words c.args.due.turn.number
-    (blocks_beside c.args.due.turn.rule ids c.args.blocks.now) + length here.first + length here.second) (operands_are g
-    (goal.at.In-Ok g at).After-top-operands)))) in
+    let taken = operands_are g (goal.at.In-Ok g at).After-top-operands in
+    let words : c.words_by-words.result ≡ all =
+    rw (c.words_by-words.ensures, before, c.held.ensures.value, ← taken) here.counted in
     executed_past (can g at) (settled g at) refl (rw (c.as_slice.ensures, words) at c.advance_settled.ensures.advances)
 
 pub returns-in-Ok-clause-after : goal.returns-in-Ok-clause-after

@@ -1,4 +1,4 @@
-use Rattle.std.proofs.Common.{◌-◌, length, take, drop, arith, length-drop}
+use Rattle.std.proofs.Common.{arith, length-drop}
 use Rattle.std.proofs.lemmas.List.{length-reverse, take_all}
 use Rattle.refcounts.specs.SharedState.{slot_at}
 use Rattle.job_slots.proofs.Operands.{last_are_top, same_top}

@@ -1,4 +1,4 @@
-use Rattle.std.proofs.Common.{length, map, arith}
+use Rattle.std.proofs.Common.{arith}
 use Rattle.std.proofs.lemmas.List.{length-map}
 use Rattle.refcounts.specs.SharedState.{slot_at}
 use Rattle.job_slots.proofs.Operands.{lent}

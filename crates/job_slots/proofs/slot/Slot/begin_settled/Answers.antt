@@ -5,14 +5,15 @@ use Rattle.job_steps.specs.States.{ruled}
 use Rattle.job_slots.specs.Answers.{IsAskedOf, early_end_at}
 use Rattle.job_slots.specs.Slots.{SlotState, IsActive}
 use Rattle.job_slots.proofs.Overlaid.{may_end}
-use Rattle.job_slots.proofs.Started.{flying, has_grant, ends, is_ticket, shows_flying, stands_flying, next_of}
-use Rattle.job_slots.proofs.Started.{stands_ended}
+use Rattle.job_slots.proofs.EarlyEnds.{is_ending}
+use Rattle.job_slots.proofs.Started.{is_ticket, next_of, runs, shows_flying, stands_ended, stands_flying}
 use Rattle.job_slots.proofs.slot.Slot.begin_settled.Given.{Over}
 use Rattle.job_slots.proofs.slot.Slot.begin_settled.Goals as goal
 use Rattle.job_slots.proofs.slot.Slot.begin_settled.Goals.{In-Ok, In-Err}
 
 pub ticket_of-requires-clause-has_grant : goal.ticket_of-requires-clause-has_grant
-ticket_of-requires-clause-has_grant g c = has_grant _ _ _ _ c.requires.shows c.requires.live
+ticket_of-requires-clause-has_grant g c =
+    (c.requires.shows.is_job, (c.args.job.now.limits.words, rw c.requires.live at c.requires.shows.grant))
 
 -- ---- the job ends
 
@@ -20,13 +21,12 @@ halts : (g : Over) (c : goal.In-Err g) → early_end_at (ruled c.args.turn.rule 
     c.args.self.now.trace.executed ≡ Some c.in-Err.halted.ending
 halts g c = rw (← c.self.view_is) c.in-Err.ensures.0
 
-pub end-requires-clause-may_end : goal.end-requires-clause-may_end
-end-requires-clause-may_end g c = may_end _ _ _ _ c.requires.shows (subst IsActive (sym c.requires.live) tt)
-
-pub end-requires-clause-ending : goal.end-requires-clause-ending
-end-requires-clause-ending g c =
-    ends c.early_ends_end.ensures _ _ _ _ _ c.requires.shows c.requires.live
-    (halts g (goal.at.end-requires-clause-ending g c).In-Err)
+pub end-requires : goal.end-requires
+end-requires g c =
+    let at = (goal.at.end-requires g c).In-Err in
+    let ending = is_ending c.early_ends_end.ensures _ _ _ (runs _ _ _ _ c.requires.shows c.requires.live) _
+    c.requires.shows.verified (halts g at) in
+    assumption (may_end _ _ _ _ c.requires.shows (subst IsActive (sym c.requires.live) tt), ending)
 
 pub returns-in-Err-clause-answer : goal.returns-in-Err-clause-answer
 returns-in-Err-clause-answer g c =

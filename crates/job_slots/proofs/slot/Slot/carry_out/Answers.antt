@@ -1,5 +1,4 @@
 use Rattle.std.proofs.Common.{◌∙◌, ap}
-use Rattle.job_steps.specs.States.{ruled}
 use Rattle.job_slots.specs.Slots.{SlotState}
 use Rattle.job_slots.proofs.Committed.{executed_inside, took}
 use Rattle.job_slots.proofs.Started.{is_flying}
@@ -12,12 +11,9 @@ execute-requires-clause-flying g c =
 
 pub returns : goal.returns
 returns g c =
-    let mid : SlotState = record
-    { status = c.self.inside.status; trace = c.execute.new.track; outcome = c.self.inside.outcome } in
-    let executed = executed_inside c.args.turn.number (ruled c.args.turn.rule c.args.job.now) c.args.self.now
-    c.self.inside.track c.execute.new.track c.args.blocks.now c.execute.new.blocks
-    (ap (λ (s : SlotState). s.trace) c.self.view_is) c.execute.ensures.after c.execute.ensures.limits
-    c.execute.ensures.others c.execute.ensures.same_grant in
-    took c.reached.ensures c.end_is_own.ensures _ _ _ _ _ c.requires.can c.requires.goes_on mid
-    (ap (λ (s : SlotState). s.status) c.self.view_is ∙ c.requires.can.live) executed _ _
+    took c.reached.ensures c.end_is_own.ensures _ _ _ _ _ c.requires.can c.requires.goes_on (record
+    { status = c.self.inside.status; trace = c.execute.new.track; outcome = c.self.inside.outcome })
+    (ap (λ (s : SlotState). s.status) c.self.view_is ∙ c.requires.can.live)
+    (executed_inside _ _ c.args.self.now c.self.inside.track _ _ _ (ap (λ (s : SlotState). s.trace) c.self.view_is)
+    c.execute.ensures.after c.execute.ensures.limits c.execute.ensures.others c.execute.ensures.same_grant) _ _
     (record { still = c.go_on.ensures.on; ended = c.go_on.ensures.ended })

@@ -23,12 +23,10 @@ fault_ends_job g c =
     fault_commits c.others_are_ready.ensures c.end_is_own.ensures _ _ _ _ _ _ _ _ c.requires.shows c.requires.flying
     c.requires.fits (ap (λ (s : SlotState). s.trace) c.self.view_is) c.in-Err.ensures c.line_of_next-line.ensures
 
-pub end-requires-clause-may_end : goal.end-requires-clause-may_end
-end-requires-clause-may_end g c = may_end _ _ _ _ c.requires.shows (subst IsActive (sym c.requires.flying) tt)
-
-pub end-requires-clause-ending : goal.end-requires-clause-ending
-end-requires-clause-ending g c =
-    (fault_ends_job g (goal.at.end-requires-clause-ending g c).After-line_of_next-line).ending
+pub end-requires : goal.end-requires
+end-requires g c =
+    let ends = fault_ends_job g (goal.at.end-requires g c).After-line_of_next-line in
+    assumption (may_end _ _ _ _ c.requires.shows (subst IsActive (sym c.requires.flying) tt), ends)
 
 pub returns-in-Err-clause-answer : goal.returns-in-Err-clause-answer
 returns-in-Err-clause-answer g c =
@@ -65,18 +63,12 @@ answers g c on is =
     finish_answers _ _ c.args.self.now _ _ c.carry_out.new.self _ on c.requires.flying c.requires.fits
     (rw is at (steps g c)) (stands g c)
 
-pub returns-then-carry_out-clause-answer : goal.returns-then-carry_out-clause-answer
-returns-then-carry_out-clause-answer g c =
-    answers g (goal.at.returns-then-carry_out-clause-answer g c).After-carry_out true c.if-carry_out.true
+pub returns-then-carry_out : goal.returns-then-carry_out
+returns-then-carry_out g c =
+    let at = (goal.at.returns-then-carry_out g c).After-carry_out in
+    assumption (answers g at true c.if-carry_out.true, stands g at, steps g at)
 
-pub returns-then-carry_out-clause-standing : goal.returns-then-carry_out-clause-standing
-returns-then-carry_out-clause-standing g c =
-    stands g (goal.at.returns-then-carry_out-clause-standing g c).After-carry_out
-
-pub returns-else-carry_out-clause-answer : goal.returns-else-carry_out-clause-answer
-returns-else-carry_out-clause-answer g c =
-    answers g (goal.at.returns-else-carry_out-clause-answer g c).After-carry_out false c.if-carry_out.false
-
-pub returns-else-carry_out-clause-standing : goal.returns-else-carry_out-clause-standing
-returns-else-carry_out-clause-standing g c =
-    stands g (goal.at.returns-else-carry_out-clause-standing g c).After-carry_out
+pub returns-else-carry_out : goal.returns-else-carry_out
+returns-else-carry_out g c =
+    let at = (goal.at.returns-else-carry_out g c).After-carry_out in
+    assumption (answers g at false c.if-carry_out.false, stands g at, steps g at)

@@ -10,7 +10,6 @@ stepped : (g : Over) (c : After-used-used-in-loop-turn g) →
     HasStepped c.args.turn.number (ruled c.args.turn.rule c.args.job.now) c.args.self.now c.args.blocks.now
     c.loop-turn.self c.step_live.new.self c.step_live.new.blocks
 stepped g c =
-    let task = ruled c.args.turn.rule c.args.job.now in
     on_next _ _ _ _ _ _ _ _ c.loop-turn.invariant.0 c.changes_join.ensures c.reached.ensures
     (rw (← c.loop-turn-test.true) c.step_live.ensures.steps) c.used-used-in-loop-turn.ensures.tidy
 
@@ -25,17 +24,12 @@ loop-turn-preserved g c = (
 
 pub returns : goal.returns
 returns g c =
-    let task = ruled c.args.turn.rule c.args.job.now in
     let steps = c.step_live.ensures.steps in
     let over = rw c.loop-turn-test.false at steps in
     record {
-      ran =
-          has_run c.args.turn.number task c.args.self.now c.args.blocks.now c.loop-turn.self c.loop-turn.blocks
-          c.step_live.new.self c.step_live.new.blocks c.loop-turn.invariant.0 over;
+      ran = has_run _ _ _ _ _ _ _ _ c.loop-turn.invariant.0 over;
       over = sym over.answer;
       shows = steps.shows;
-      others =
-          (c.changes_join.ensures c.args.turn.number).both c.args.blocks.now c.loop-turn.blocks c.step_live.new.blocks
-          c.loop-turn.invariant.0.others steps.others;
+      others = (c.changes_join.ensures _).both _ _ _ c.loop-turn.invariant.0.others steps.others;
       desk = c.step_live.ensures.desk ∙ c.loop-turn.invariant.1;
     }

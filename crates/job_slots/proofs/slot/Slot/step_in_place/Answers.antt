@@ -1,10 +1,8 @@
 -- A step that computes in place of its operands is the next step of the job, or a value fault ends the job.
-use Rattle.std.proofs.Common.{◌≡◌, ◌∙◌, ℕ, Some, sym, ap, subst}
+use Rattle.std.proofs.Common.{◌≡◌, ◌∙◌, sym, ap, subst}
 use Rattle.vcode_base.specs.declared.outcome.Outcome.TheVariants.{Fault}
-use Rattle.vcode_base.specs.Meaning.{value_fault}
 use Rattle.job_steps.specs.States.{ruled}
 use Rattle.job_steps.specs.Tickets.{question_by}
-use Rattle.job_steps.specs.Tracks.{TrackState}
 use Rattle.job_slots.specs.Answers.{EndsByStep}
 use Rattle.job_slots.specs.InPlace.{operands_in}
 use Rattle.job_slots.specs.Slots.{SlotState, IsActive}
@@ -28,15 +26,12 @@ execute_in_place-requires-clause-placeable g c = rw (← c.self.view_is) at c.re
 
 pub returns-in-Ok : goal.returns-in-Ok
 returns-in-Ok g c =
-    let mid : SlotState = record
-    { status = c.self.inside.status; trace = c.execute_in_place.new.track; outcome = c.self.inside.outcome } in
-    let executed = executed_inside c.args.turn.number (ruled c.args.turn.rule c.args.job.now) c.args.self.now
-    c.self.inside.track c.execute_in_place.new.track c.args.blocks.now c.execute_in_place.new.blocks
-    (ap (λ (s : SlotState). s.trace) c.self.view_is) c.in-Ok.ensures.after c.execute_in_place.ensures.limits
-    c.in-Ok.ensures.others c.execute_in_place.ensures.same_grant in
-    took c.reached.ensures c.end_is_own.ensures _ _ _ _ _ c.requires.can c.requires.goes_on mid
-    (ap (λ (s : SlotState). s.status) c.self.view_is ∙ c.requires.can.live) executed _ _
-    (record { still = c.go_on.ensures.on; ended = c.go_on.ensures.ended })
+    took c.reached.ensures c.end_is_own.ensures _ _ _ _ _ c.requires.can c.requires.goes_on (record
+    { status = c.self.inside.status; trace = c.execute_in_place.new.track; outcome = c.self.inside.outcome })
+    (ap (λ (s : SlotState). s.status) c.self.view_is ∙ c.requires.can.live)
+    (executed_inside _ _ c.args.self.now c.self.inside.track _ _ _ (ap (λ (s : SlotState). s.trace) c.self.view_is)
+    c.in-Ok.ensures.after c.execute_in_place.ensures.limits c.in-Ok.ensures.others
+    c.execute_in_place.ensures.same_grant) _ _ (record { still = c.go_on.ensures.on; ended = c.go_on.ensures.ended })
 
 -- ---- the job ends by the values of its operands
 
@@ -44,21 +39,17 @@ returns-in-Ok g c =
 same_slot : (g : Over) (c : In-Err g) → record
     { status = c.self.inside.status; trace = c.execute_in_place.new.track; outcome = c.self.inside.outcome }
     ≡ c.args.self.now
-same_slot g c =
-    ap (λ (t : TrackState ℕ). let s : SlotState =
-    record { status = c.self.inside.status; trace = t; outcome = c.self.inside.outcome } in s)
-    c.in-Err.ensures.unchanged ∙ c.self.view_is
+same_slot g c = rw c.in-Err.ensures.unchanged c.self.view_is
 
 ends : (g : Over) (c : In-Err g) → EndsByStep c.args.turn.number (ruled c.args.turn.rule c.args.job.now)
-    c.args.self.now.trace.executed c.args.self.now.trace.peak (Fault c.in-Err.fault c.args.placement.line)
+    c.args.self.now.trace.executed c.args.self.now.trace.peak (Fault c.in-Err.fault c.line_of_next-line.result)
 ends g c =
     let p = c.args.placement in
     let can = c.requires.can in
-    let faulty = subst (λ (s : SlotState). value_fault p.op (operands_in c.args.blocks.now p.op s.trace.cells)
-    ≡ Some c.in-Err.fault) c.self.view_is c.in-Err.ensures.fault in
     ends_by_fault c.others_are_ready.ensures c.end_is_own.ensures _ _ _ _ (runs _ _ _ _ can.shows can.live)
-    (question_by p.op (operands_in c.args.blocks.now p.op c.args.self.now.trace.cells)) _ _ can.shows.verified
-    c.requires.goes_on c.requires.placeable.question faulty c.requires.placeable.line_is
+    (question_by p.op (operands_in c.args.blocks.now p.op c.args.self.now.trace.cells)) c.in-Err.fault
+    c.line_of_next-line.result can.shows.verified c.requires.goes_on c.requires.placeable.question
+    (rw (← c.self.view_is) c.in-Err.ensures.fault) (rw (← c.self.view_is) c.line_of_next-line.ensures)
 
 pub end-requires-clause-may_end : goal.end-requires-clause-may_end
 end-requires-clause-may_end g c =
