@@ -1,8 +1,7 @@
 -- Who is admitted next, and who is passed by.
 use Rattle.std.proofs.Common.{◌≡◌, ℕ, zero, suc, ◌+◌, ◌<◌, ◌≤◌, Bool, true, false, cond, ◌||◌, List, [], ◌∷◌, length}
-use Rattle.std.proofs.Common.{map, set, drop, get_or, slice_get, Some, None, refl, sym, ◌∙◌, ap, subst, arith}
-use Rattle.std.proofs.Common.{drop-cons}
-use Rattle.std.specs.Prelude.{IsTrue, ◌↔◌}
+use Rattle.std.proofs.Common.{map, set, drop, get_or, slice_get, Some, refl, sym, ◌∙◌, ap, arith, drop-cons, ◌↔◌}
+use Rattle.std.specs.Prelude.{IsTrue}
 use Rattle.std.proofs.lemmas.Bool.{le-leb, lt-leb, cases_lt, false≢true}
 use Rattle.std.proofs.lemmas.List.{drop_all}
 use Rattle.std.proofs.lemmas.Option.{none-some, same_Some, slice_get_read, slice_get-get_or, get_or_from_slice_get}
@@ -17,8 +16,7 @@ use Rattle.job_machine.specs.declared.machine.Admission.{Admission}
 use Rattle.job_machine.specs.declared.machine.Admission.TheVariants.{Admitted, NotNow, NoneWaiting}
 use Rattle.job_machine.specs.Machines.{any_waits, admission_by}
 use Rattle.job_machine.specs.Sound.{standings_of}
-use Rattle.job_machine.proofs.Places.{set_back}
-use Rattle.job_machine.proofs.SoundLemmas.{beside_at}
+use Rattle.job_machine.proofs.Places.{beside_at, set_back}
 
 -- ---- the walk over the jobs
 
@@ -36,24 +34,19 @@ pub record HasHeads (jobs : List JobValue) (slots : List SlotState) (passes : Li
   pub slots_are : drop place slots ≡ slot ∷ drop (suc place) slots
   pub passes_are : drop place passes ≡ count ∷ drop (suc place) passes
 
-pub has_heads : (jobs : List JobValue) (slots : List SlotState) (passes : List ℕ) (place : ℕ) (job : JobValue)
-    (slot : SlotState) (d : ℕ) → place < length slots → length slots ≡ length jobs → length passes ≡ length jobs →
-    job ≡ get_or jobs place job → slot ≡ get_or slots place slot →
-    HasHeads jobs slots passes place job slot (get_or passes place d)
+pub has_heads : (jobs : List JobValue) (slots : List SlotState) (passes : List ℕ) (place : ℕ) (job : JobValue) (slot :
+    SlotState) (d : ℕ) → place < length slots → length slots ≡ length jobs → length passes ≡ length jobs → job ≡ get_or
+    jobs place job → slot ≡ get_or slots place slot → HasHeads jobs slots passes place job slot (get_or passes place d)
 has_heads jobs slots passes place job slot d within same long job_is slot_is = grind (arith, drop-cons)
 
 -- some job is at a place
-pub some_heads : (jobs : List JobValue) (slots : List SlotState) (passes : List ℕ) (place : ℕ) (slot : SlotState)
-    (d : ℕ) → place < length slots → length slots ≡ length jobs → length passes ≡ length jobs →
-    slot ≡ get_or slots place slot → (job : JobValue) × HasHeads jobs slots passes place job slot
-    (get_or passes place d)
+pub some_heads : (jobs : List JobValue) (slots : List SlotState) (passes : List ℕ) (place : ℕ) (slot : SlotState) (d :
+    ℕ) → place < length slots → length slots ≡ length jobs → length passes ≡ length jobs → slot ≡ get_or slots place
+    slot → (job : JobValue) × HasHeads jobs slots passes place job slot (get_or passes place d)
 some_heads jobs slots passes place slot d within same long slot_is =
-    let slot_at = slice_get_read slots (length slots) place slot refl within slot_is in
-    let job = beside_at slots jobs (sym same) place slot slot_at in (
-      job.0,
-      has_heads jobs slots passes place job.0 slot d within same long
-          (sym (get_or_from_slice_get jobs place job.0 job.0 job.1)) slot_is,
-    )
+    let job = beside_at slots jobs (sym same) place slot (slice_get_read slots _ place slot refl within slot_is) in
+    let job_is = sym (get_or_from_slice_get jobs place job.0 job.0 job.1) in
+    (job.0, has_heads jobs slots passes place job.0 slot d within same long job_is slot_is)
 
 -- the result of a test of room
 pub fits_by : (b : Bool) (room granted words own : ℕ) → b ≡ true → (IsTrue b ↔ (granted + words ≤ room)) → words ≡ own →
@@ -69,45 +62,32 @@ abbrev pub rest_at : Rule → JobBlocks → List JobValue → List SlotState →
 rest_at rule blocks jobs slots passes waits place =
     rest_by rule blocks waits (suc place) (drop place jobs) (drop place slots) (drop place passes)
 
-to_next : (rule : Rule) (blocks : JobBlocks) (jobs : List JobValue) (slots : List SlotState) (passes : List ℕ)
-    (waits : Bool) (place next : ℕ) → next ≡ suc place → rest_at rule blocks jobs slots passes waits (suc place) ≡
-    rest_at rule blocks jobs slots passes waits next
-to_next rule blocks jobs slots passes waits place next next_is = grind (arith, rest_at)
+module _ (rule : Rule) (blocks : JobBlocks) {jobs : List JobValue} {slots : List SlotState} {passes : List ℕ}
+    (waits : Bool) {place : ℕ} (next : ℕ) {job : JobValue} {slot : SlotState} {count : ℕ}
+    (h : HasHeads jobs slots passes place job slot count) (next_is : next ≡ suc place) where
+  to_next : rest_at rule blocks jobs slots passes waits (suc place) ≡ rest_at rule blocks jobs slots passes waits next
+  to_next = grind (arith, rest_at)
 
--- a job that doesn't wait
-pub rest_skips : (rule : Rule) (blocks : JobBlocks) (jobs : List JobValue) (slots : List SlotState) (passes : List ℕ)
-    (waits : Bool) (place next : ℕ) (job : JobValue) (slot : SlotState) (count : ℕ) →
-    HasHeads jobs slots passes place job slot count → next ≡ suc place → is_waiting (standing_of slot) ≡ false →
-    rest_at rule blocks jobs slots passes waits place ≡ rest_at rule blocks jobs slots passes waits next
-rest_skips rule blocks jobs slots passes waits place next job slot count h next_is w_is =
-    grind (arith, rest_by, admission_by, has_room, to_next)
+  -- a job that doesn't wait
+  pub rest_skips : is_waiting (standing_of slot) ≡ false →
+      rest_at rule blocks jobs slots passes waits place ≡ rest_at rule blocks jobs slots passes waits next
+  rest_skips w_is = grind (arith, rest_by, admission_by, has_room, to_next)
 
--- the first that waits and fits
-pub rest_admits : (rule : Rule) (blocks : JobBlocks) (jobs : List JobValue) (slots : List SlotState) (passes : List ℕ)
-    (waits : Bool) (place next : ℕ) (job : JobValue) (slot : SlotState) (count : ℕ) →
-    HasHeads jobs slots passes place job slot count → next ≡ suc place → is_waiting (standing_of slot) ≡ true →
-    granted_words blocks + job.limits.words ≤ blocks.memory.room →
-    rest_at rule blocks jobs slots passes waits place ≡ Admitted next
-rest_admits rule blocks jobs slots passes waits place next job slot count h next_is w_is fits =
-    grind (arith, rest_by, admission_by, has_room, le-leb)
+  -- the first that waits and fits
+  pub rest_admits : is_waiting (standing_of slot) ≡ true → granted_words blocks + job.limits.words ≤ blocks.memory.room
+      → rest_at rule blocks jobs slots passes waits place ≡ Admitted next
+  rest_admits w_is fits = grind (arith, rest_by, admission_by, has_room, le-leb)
 
--- a job that waits, doesn't fit, and was passed by as often as a job may be
-pub rest_stops : (rule : Rule) (blocks : JobBlocks) (jobs : List JobValue) (slots : List SlotState) (passes : List ℕ)
-    (waits : Bool) (place : ℕ) (job : JobValue) (slot : SlotState) (count : ℕ) →
-    HasHeads jobs slots passes place job slot count → is_waiting (standing_of slot) ≡ true →
-    blocks.memory.room < granted_words blocks + job.limits.words → MOST_PASSES ≤ count →
-    rest_at rule blocks jobs slots passes waits place ≡ NotNow
-rest_stops rule blocks jobs slots passes waits place job slot count h w_is past most =
-    grind (arith, rest_by, admission_by, has_room, lt-leb, le-leb)
+  -- a job that waits, doesn't fit, and was passed by as often as a job may be
+  pub rest_stops : is_waiting (standing_of slot) ≡ true → blocks.memory.room < granted_words blocks + job.limits.words →
+      MOST_PASSES ≤ count → rest_at rule blocks jobs slots passes waits place ≡ NotNow
+  rest_stops w_is past most = grind (arith, rest_by, admission_by, has_room, lt-leb, le-leb)
 
--- a job that waits, doesn't fit, and is passed by
-pub rest_passes : (rule : Rule) (blocks : JobBlocks) (jobs : List JobValue) (slots : List SlotState) (passes : List ℕ)
-    (waits : Bool) (place next : ℕ) (job : JobValue) (slot : SlotState) (count : ℕ) →
-    HasHeads jobs slots passes place job slot count → next ≡ suc place → is_waiting (standing_of slot) ≡ true →
-    blocks.memory.room < granted_words blocks + job.limits.words → count < MOST_PASSES →
-    rest_at rule blocks jobs slots passes waits place ≡ rest_at rule blocks jobs slots passes true next
-rest_passes rule blocks jobs slots passes waits place next job slot count h next_is w_is past few =
-    grind (arith, rest_by, admission_by, has_room, lt-leb, to_next)
+  -- a job that waits, doesn't fit, and is passed by
+  pub rest_passes : is_waiting (standing_of slot) ≡ true →
+      blocks.memory.room < granted_words blocks + job.limits.words → count < MOST_PASSES →
+      rest_at rule blocks jobs slots passes waits place ≡ rest_at rule blocks jobs slots passes true next
+  rest_passes w_is past few = grind (arith, rest_by, admission_by, has_room, lt-leb, to_next)
 
 -- no job is left
 pub rest_ends : (rule : Rule) (blocks : JobBlocks) (jobs : List JobValue) (slots : List SlotState) (passes : List ℕ)
@@ -118,10 +98,9 @@ rest_ends rule blocks jobs slots passes waits place past same = grind (arith, dr
 -- ---- one pass more
 
 -- one job more may be passed by
-before_more : (place : ℕ) (standings : List Standing) (passes : List ℕ) (s : Standing) (count : ℕ) →
-    slice_get standings place ≡ Some s → slice_get passes place ≡ Some count →
-    passes_before (suc place) standings passes ≡ set (passes_before place standings passes) place
-    (passed_once_more s count)
+before_more : (place : ℕ) (standings : List Standing) (passes : List ℕ) (s : Standing) (count : ℕ) → slice_get standings
+    place ≡ Some s → slice_get passes place ≡ Some count → passes_before (suc place) standings passes ≡ set
+    (passes_before place standings passes) place (passed_once_more s count)
 before_more place [] passes s count s_is count_is = absurd (none-some s s_is)
 before_more place (z ∷ standings) [] s count s_is count_is = absurd (none-some count count_is)
 before_more zero (z ∷ standings) (n ∷ passes) s count s_is count_is = grind (arith, same_Some)
@@ -149,38 +128,35 @@ here : (standings : List Standing) (old now : List ℕ) (place : ℕ) → Counts
     slice_get old place ≡ Some (get_or now place d)
 here standings old now place c d =
     let at = slice_get-get_or old place d (omega (arith, c.same, c.within)) in
-    let same = before_at place standings old ∙ at in
-    at ∙ ap (λ (k : ℕ). Some k) (sym (get_or_from_slice_get (passes_before place standings old) place
-    (get_or old place d) d same) ∙ ap (λ (ks : List ℕ). get_or ks place d) (sym c.now_is))
+    grind (arith, before_at, get_or_from_slice_get, at)
 
 -- a count is few before it grows
 pub count_few : (standings : List Standing) (old now : List ℕ) (place : ℕ) → Counts standings old now place →
     AreFew old → get_or now place 0 ≤ MOST_PASSES
 count_few standings old now place c few =
     let at = here standings old now place c 0 in
-    subst (λ (k : ℕ). k ≤ MOST_PASSES) (get_or_from_slice_get old place (get_or now place 0) 0 at)
-    (few place 0 (omega (arith, c.same, c.within)))
+    rw (get_or_from_slice_get old place _ 0 at) at (few place 0 (omega (arith, c.same, c.within)))
 
 -- a job that waits is passed by once more
 pub counts_more : (standings : List Standing) (old now new : List ℕ) (place next : ℕ) (s : Standing) →
     Counts standings old now place → slice_get standings place ≡ Some s → is_waiting s ≡ true → next ≡ suc place →
     new ≡ set now place (get_or now place 0 + 1) → new ≡ passes_before next standings old
 counts_more standings old now new place next s c s_is waits next_is new_is =
-    let more : passed_once_more s (get_or now place 0) ≡ get_or now place 0 + 1 = ap
-    (λ (b : Bool). cond b (suc (get_or now place 0)) (get_or now place 0)) waits ∙ omega arith in
-    new_is ∙ (λ i. set (c.now_is i) place (sym more i)) ∙ sym
-    (before_more place standings old s (get_or now place 0) s_is (here standings old now place c 0)) ∙ ap
-    (λ (k : ℕ). passes_before k standings old) (sym next_is)
+    let count = get_or now place 0 in
+    let more : passed_once_more s count ≡ count + 1 = ap (λ b. cond b (suc count) count) waits ∙ omega arith in
+    let one = before_more place standings old s count s_is (here standings old now place c 0) in
+    new_is ∙ (λ i. set (c.now_is i) place (sym more i)) ∙ sym one
+    ∙ ap (λ k. passes_before k standings old) (sym next_is)
 
 -- one that doesn't fit isn't
 pub counts_still : (standings : List Standing) (old now new : List ℕ) (place next : ℕ) (s : Standing) →
     Counts standings old now place → slice_get standings place ≡ Some s → is_waiting s ≡ false → next ≡ suc place →
     new ≡ now → new ≡ passes_before next standings old
 counts_still standings old now new place next s c s_is waits next_is new_is =
-    let count : ℕ = get_or now place 0 in
-    let more : passed_once_more s count ≡ count = ap (λ (b : Bool). cond b (suc count) count) waits in
-    let at : slice_get now place ≡ Some count = ap (λ (ks : List ℕ). slice_get ks place) c.now_is ∙
-    (before_at place standings old ∙ here standings old now place c 0) in
-    new_is ∙ sym (set_back now place count at) ∙ (λ i. set (c.now_is i) place (sym more i)) ∙ sym
-    (before_more place standings old s count s_is (here standings old now place c 0)) ∙ ap
-    (λ (k : ℕ). passes_before k standings old) (sym next_is)
+    let count = get_or now place 0 in
+    let more : passed_once_more s count ≡ count = ap (λ b. cond b (suc count) count) waits in
+    let old_at = here standings old now place c 0 in
+    let at = ap (λ ks. slice_get ks place) c.now_is ∙ before_at place standings old ∙ old_at in
+    let one = before_more place standings old s count s_is old_at in
+    new_is ∙ sym (set_back now place count at) ∙ (λ i. set (c.now_is i) place (sym more i)) ∙ sym one
+    ∙ ap (λ k. passes_before k standings old) (sym next_is)

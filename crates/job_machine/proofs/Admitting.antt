@@ -1,8 +1,8 @@
 -- An admission among a machine's jobs.
 use Rattle.std.proofs.Common.{◌≡◌, ℕ, suc, ◌+◌, ◌-◌, ◌<◌, ◌≤◌, List, [], ◌∷◌, length, map, set, get_or, Some, refl, sym}
-use Rattle.std.proofs.Common.{◌∙◌, ap, subst, arith}
+use Rattle.std.proofs.Common.{◌∙◌, ap, arith, Result, Ok, Err, OnOk, ◌↔◌}
 use Rattle.std.specs.Arc.{arc_value}
-use Rattle.std.specs.Prelude.{Result, Ok, Err, IsErr, OnOk, ◌↔◌}
+use Rattle.std.specs.Prelude.{IsErr}
 use Rattle.std.proofs.lemmas.Option.{none-some, same_Some, slice_get_within, slice_get_read}
 use Rattle.vcode_base.specs.declared.rule.Rule.{Rule}
 use Rattle.job_memory.specs.JobBlocks.{JobBlocks}
@@ -10,7 +10,7 @@ use Rattle.job_memory.specs.JobBlocks as jobs
 use Rattle.job_steps.specs.declared.event.Event.TheVariants.{Admit}
 use Rattle.job_steps.specs.EventLaws.{EventsChangeTheirJob, AdmittedHaveRoom, AdmissionsPassOnce, PassesAreFew, HasRoom}
 use Rattle.job_steps.specs.Events.{after_event, next_standing}
-use Rattle.job_steps.specs.Standings.{Standing, Waiting, Live, AreFew, of_job, admission, passes_before}
+use Rattle.job_steps.specs.Standings.{Waiting, Live, admission, passes_before}
 use Rattle.job_steps.specs.States.{JobValue, Task, ruled}
 use Rattle.job_slots.specs.declared.status.Status.{Status}
 use Rattle.job_slots.specs.declared.status.Status.TheVariants as status
@@ -63,11 +63,8 @@ pub record HasOwnPlace (count job : ℕ) : Type 0 where
   pub first : 1 ≤ job
   pub within : job ≤ count
 
-own_place : (tasks : List Task) (job : ℕ) (task : Task) → of_job job tasks ≡ Some task → HasOwnPlace (length tasks) job
-own_place tasks job task e = grind (arith, none-some, slice_get_within)
-
 pub admitted_place : {p : Parts} {job : ℕ} → IsAdmitted p job → HasOwnPlace (length p.tasks) job
-admitted_place {p} {job} a = own_place p.tasks job a.room.task a.room.task_is
+admitted_place {p} {job} a = grind (arith, none-some, slice_get_within, a.room.task_is)
 
 waits_by : (s : Status) (n : ℕ) → standing_by s n ≡ Waiting → s ≡ status.Waiting
 waits_by s n e = grind arith
@@ -86,23 +83,16 @@ has_next {p} {m} {job} place task slot sound view a place_is task_is slot_is =
     let own = admitted_place a in
     let job_is : job ≡ suc place = omega (arith, own.first, place_is) in
     let within : place < length p.tasks = omega (arith, own.within, job_is) in
-    let turn : HasTurn p m job place task slot =
-    turn_at p job place task slot view job_is (slice_get_read p.tasks (length p.tasks) place task refl within task_is)
-    (slice_get_read p.slots (length p.slots) place slot refl (omega (arith, within, sound.slots_are)) slot_is) in
+    let turn = turn_at p job place task slot view job_is (slice_get_read p.tasks _ place task refl within task_is)
+    (slice_get_read p.slots _ place slot refl (omega (arith, within, sound.slots_are)) slot_is) in
     let first = turn_at p job place task slot refl job_is turn.task_at turn.slot_at in
-    let same : a.room.task ≡ task = same_Some a.room.task task (sym a.room.task_is ∙ first.shown_task) in
-    let stands : standing_of slot ≡ Waiting =
-    same_Some (standing_of slot) Waiting (sym first.shown_standing ∙ a.room.waits) in
+    let same : a.room.task ≡ task = same_Some _ task (sym a.room.task_is ∙ first.shown_task) in
+    let stands : standing_of slot ≡ Waiting = same_Some _ Waiting (sym first.shown_standing ∙ a.room.waits) in
     record {
       turn = turn;
       waits = waits_by slot.status slot.trace.executed stands;
-      room = omega (
-        arith,
-        a.room.room,
-        granted_is p.blocks p.tasks p.slots sound,
-        ap (λ (k : Task). k.limits.words) same,
-      );
-      next = a.next ∙ ap (λ (k : ℕ). Some k) job_is;
+      room = rw (granted_is p.blocks p.tasks p.slots sound, ← same) a.room.room;
+      next = rw job_is at a.next;
     }
 
 -- ---- the machine after it
@@ -123,15 +113,13 @@ module _ {p : Parts} {m : MachineState} {job place : ℕ} {task : Task} {before 
   pub admitted_sound : PassesAreFew → AreSound p → {new : JobBlocks} {after : List SlotState} →
       IsSound new p.tasks after p.passes → IsSound new p.tasks after late
   admitted_sound few sound {new} {after} now =
-      sound_passes new p.tasks after p.passes late now
-      (ap length late_is ∙ before_length place (standings_of p.slots) p.passes)
-      (subst AreFew (sym passed_are) (few p.blocks.memory.room p.tasks (Admit ∷ []) (queue_by p.slots p.passes)
-      sound.few_passes))
+      sound_passes new p.tasks after p.passes late now (ap length late_is ∙ before_length place _ p.passes)
+      (rw passed_are (few _ _ (Admit ∷ []) (queue_by p.slots p.passes) sound.few_passes))
 
   pub admitted_state : EventsChangeTheirJob → (new : JobBlocks) (after : SlotState) →
       new.memory.room ≡ p.blocks.memory.room → standing_of after ≡ Live 0 →
       shown_machine p.rule new p.tasks (set p.slots place after) late ≡ machine_after Admit m
   admitted_state changed new after room live =
-      let waiting : standing_of before ≡ Waiting = ap (λ (s : Status). standing_by s before.trace.executed) h.waits in
-      turn_to h.turn new after room changed Admit late (h.next ∙ ap (λ (k : ℕ). Some k) (sym h.turn.job_is))
-      (live ∙ sym (ap (λ (s : Standing). or_same s (next_standing Admit task s)) waiting)) passed_are
+      let waiting : standing_of before ≡ Waiting = ap (λ s. standing_by s before.trace.executed) h.waits in
+      turn_to h.turn new after room changed Admit late (h.next ∙ ap (λ k. Some k) (sym h.turn.job_is))
+      (live ∙ sym (ap (λ s. or_same s (next_standing Admit task s)) waiting)) passed_are

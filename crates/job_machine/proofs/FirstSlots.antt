@@ -1,12 +1,11 @@
 -- A machine whose jobs all wait is sound.
 use Rattle.std.proofs.Common.{◌≡◌, ℕ, zero, suc, ◌+◌, ◌-◌, ◌≤◌, cond, List, [], ◌∷◌, length, map, ◌++◌, replicate}
-use Rattle.std.proofs.Common.{get_or, slice_get, All, Option, Some, None, refl, sym, ◌∙◌, ap, subst, arith}
-use Rattle.std.specs.Prelude.{sum_by, nat_lt}
-use Rattle.std.proofs.lemmas.List.Folds.{sum_by-replicate}
+use Rattle.std.proofs.Common.{get_or, slice_get, All, Option, Some, None, refl, sym, ◌∙◌, ap, subst, arith, sum_by}
+use Rattle.std.proofs.Common.{nat_lt}
+use Rattle.std.proofs.lemmas.List.Folds.{fold-map, sum_by-replicate}
 use Rattle.std.proofs.lemmas.Option.{none-some, same_Some, slice_get_within}
 use Rattle.std.proofs.lemmas.List.{length-map, length-replicate}
 use Rattle.std.proofs.lemmas.List.Elements.{All-nil, All-cons, All-map}
-use Rattle.std.proofs.lemmas.List.Sums.{sum_by-cons}
 use Rattle.vcode_base.specs.declared.limits.TheConstants.{MOST_JOBS, MOST_PASSES, MOST_WORDS}
 use Rattle.vcode_base.specs.declared.rule.Rule.{Rule}
 use Rattle.refcounts.specs.SharedState.{Slot, empty_slot, words_in, blocks_in}
@@ -50,9 +49,8 @@ AreNewSlots jobs slots =
     slot → IsNewSlot job slot
 
 -- the job of a task at a place
-pub job_at : (rule : Rule) (jobs : List JobValue) (place : ℕ) (task : Task) →
-    slice_get (map (ruled rule) jobs) place ≡ Some task → (job : JobValue) × (slice_get jobs place ≡ Some job) ×
-    (ruled rule job ≡ task)
+pub job_at : (rule : Rule) (jobs : List JobValue) (place : ℕ) (task : Task) → slice_get (map (ruled rule) jobs) place ≡
+    Some task → (job : JobValue) × (slice_get jobs place ≡ Some job) × (ruled rule job ≡ task)
 job_at rule [] place task e = absurd (none-some task e)
 job_at rule (j ∷ jobs) zero task e = (j, refl, same_Some (ruled rule j) task e)
 job_at rule (j ∷ jobs) (suc place) task e = job_at rule jobs place task e
@@ -67,57 +65,10 @@ pub no_passes : (rule : Rule) (jobs : List JobValue) → replicate {A = ℕ} (le
 no_passes rule [] = refl
 no_passes rule (j ∷ jobs) = ap (λ (ks : List ℕ). 0 ∷ ks) (no_passes rule jobs)
 
-sound_at_first : NewIsShown → (rule : Rule) (region most : ℕ) (jobs : List JobValue) (slots : List SlotState) →
-    most ≡ sum_by (λ (task : Task). task.limits.cells) (map (ruled rule) jobs) + 2 →
-    length slots ≡ length (map (ruled rule) jobs) → length (map (ruled rule) jobs) ≤ MOST_JOBS → 1 ≤ region →
-    region ≤ MOST_WORDS → All (λ (task : Task). task.limits.words ≤ region) (map (ruled rule) jobs) →
-    AreNewSlots jobs slots → IsSound (first_blocks region most (length (map (ruled rule) jobs))) (map (ruled rule) jobs)
-    slots (replicate {A = ℕ} (length (map (ruled rule) jobs)) 0)
-sound_at_first shown rule region most jobs slots most_is same few least greatest fitting new =
-    let tasks : List Task = map (ruled rule) jobs in
-    record {
-      jobs = length-replicate (length tasks) None;
-      slots_are = same;
-      passes_are = length-replicate {A = ℕ} (length tasks) 0;
-      few_passes = none_passed (length tasks);
-      few = few;
-      least = least;
-      most = greatest;
-      fitting = fitting;
-      each =
-          (λ place task slot t s.
-          let job = job_at rule jobs place task t in
-          subst (λ (k : Task). Shows (suc place) (first_blocks region most (length tasks)) k slot) job.2
-          (shown rule (suc place) (first_blocks region most (length tasks)) job.0 slot (new place job.0 slot job.1 s) (
-            omega arith,
-            omega (arith, slice_get_within tasks place task t, length-replicate {A = Option ℕ} (length tasks) None),
-          )
-          (get_replicate (length tasks) (suc place - 1) None)
-          (λ id.
-          ap (λ (ss : List Slot). get_or ss id empty_slot) (none_seen (suc place) most)
-          ∙ get_replicate most id empty_slot)));
-      numbers = length-replicate most empty_slot ∙ most_is;
-      counted =
-          no_blocks most
-          ∙ sym (sum_to_none (length tasks) (λ job. blocks_in (own_slots job (first_blocks region most (length tasks))))
-          (λ job. ap blocks_in (none_seen job most) ∙ no_blocks most));
-      used =
-          no_words most
-          ∙ sym (sum_to_none (length tasks) (λ job. words_in (own_slots job (first_blocks region most (length tasks))))
-          (λ job. ap words_in (none_seen job most) ∙ no_words most));
-    }
-
 -- the cells of all jobs
 sum_cells : (rule : Rule) (jobs : List JobValue) → sum_by (λ (job : JobValue). job.limits.cells) jobs ≡ sum_by
     (λ (task : Task). task.limits.cells) (map (ruled rule) jobs)
-sum_cells rule [] = refl
-sum_cells rule (j ∷ jobs) =
-    omega (
-      arith,
-      sum_cells rule jobs,
-      sum_by-cons (λ (job : JobValue). job.limits.cells) j jobs,
-      sum_by-cons (λ (task : Task). task.limits.cells) (ruled rule j) (map (ruled rule) jobs),
-    )
+sum_cells rule jobs = sym (fold-map (λ (cells : ℕ) (task : Task). cells + task.limits.cells) (ruled rule) 0 jobs)
 
 pub first_is_sound : NewIsShown → (rule : Rule) (blocks : JobBlocks) (region most count : ℕ) (jobs : List JobValue)
     (slots : List SlotState) → blocks.memory ≡ record { room = region; slots = replicate most empty_slot } →
@@ -129,34 +80,55 @@ first_is_sound shown rule blocks region most count jobs slots memory grants coun
     fitting new =
     let tasks : List Task = map (ruled rule) jobs in
     let long : length tasks ≡ length jobs = length-map jobs (ruled rule) in
-    let grants_are : blocks.grants ≡ replicate (length tasks) None = grants ∙ ap (λ (n : ℕ). replicate n None)
-    (count_is ∙ sym long) in
-    let are : first_blocks region most (length tasks) ≡ blocks = λ i. record
-    { memory = sym memory i; grants = sym grants_are i } in
-    let passes_are : replicate {A = ℕ} (length tasks) 0 ≡ replicate {A = ℕ} count 0 = ap
-    (λ (n : ℕ). replicate {A = ℕ} n 0) (long ∙ sym count_is) in
-    subst (λ (bs : JobBlocks). IsSound bs tasks slots (replicate count 0)) are
-    (subst (IsSound (first_blocks region most (length tasks)) tasks slots) passes_are
-    (sound_at_first shown rule region most jobs slots (most_is ∙ ap (λ n. n + 2) (sum_cells rule jobs))
-    (same ∙ sym long) (omega (arith, few, long)) least greatest
-    (All-map (λ (task : Task). task.limits.words ≤ region) (ruled rule) jobs fitting) new))
+    let first = first_blocks region most count in
+    let are : first ≡ blocks = λ i. record { memory = sym memory i; grants = sym grants i } in
+    subst (λ (bs : JobBlocks). IsSound bs tasks slots (replicate count 0)) are (record {
+      jobs = length-replicate count None ∙ count_is ∙ sym long;
+      slots_are = same ∙ sym long;
+      passes_are = length-replicate {A = ℕ} count 0 ∙ count_is ∙ sym long;
+      few_passes = none_passed count;
+      few = omega (arith, few, long);
+      least = least;
+      most = greatest;
+      fitting = All-map (λ (task : Task). task.limits.words ≤ region) (ruled rule) jobs fitting;
+      each =
+          (λ place task slot t s.
+          let job = job_at rule jobs place task t in
+          let long = length-replicate {A = Option ℕ} count None in
+          subst (λ (k : Task). Shows (suc place) first k slot) job.2
+          (shown rule (suc place) first job.0 slot (new place job.0 slot job.1 s) (
+            omega arith,
+            omega (arith, slice_get_within jobs place job.0 job.1, long, count_is),
+          )
+          (get_replicate count (suc place - 1) None)
+          (λ id.
+          ap (λ (ss : List Slot). get_or ss id empty_slot) (none_seen (suc place) most)
+          ∙ get_replicate most id empty_slot)));
+      numbers = length-replicate most empty_slot ∙ most_is ∙ ap (λ n. n + 2) (sum_cells rule jobs);
+      counted =
+          no_blocks most
+          ∙ sym (sum_to_none (length tasks) (λ job. blocks_in (own_slots job first))
+          (λ job. ap blocks_in (none_seen job most) ∙ no_blocks most));
+      used =
+          no_words most
+          ∙ sym (sum_to_none (length tasks) (λ job. words_in (own_slots job first))
+          (λ job. ap words_in (none_seen job most) ∙ no_words most));
+    })
 
 -- jobs whose slots are new wait
 pub all_wait : (rule : Rule) (jobs : List JobValue) (slots : List SlotState) → length slots ≡ length jobs →
     AreNewSlots jobs slots → standings_of slots ≡ first_standings (map (ruled rule) jobs)
 all_wait rule [] [] same new = refl
-all_wait rule [] (s ∷ ss) same new = absurd (omega (arith, same))
-all_wait rule (j ∷ js) [] same new = absurd (omega (arith, same))
 all_wait rule (j ∷ js) (s ∷ ss) same new =
-    let here : standing_of s ≡ Waiting = ap (λ (k : Status). standing_by k s.trace.executed)
-    (new 0 j s refl refl).status_is in
+    let here : standing_of s ≡ Waiting =
+    ap (λ (k : Status). standing_by k s.trace.executed) (new 0 j s refl refl).status_is in
     let rest = all_wait rule js ss (omega (arith, same)) (λ place job slot. new (suc place) job slot) in
     λ i. here i ∷ rest i
+all_wait rule jobs slots same new = absurd (omega (arith, same))
 
 -- one slot more, of the job at its place
-pub new_more : (jobs : List JobValue) (slots : List SlotState) (job : JobValue) (slot : SlotState) →
-    slice_get jobs (length slots) ≡ Some job → IsNewSlot job slot → AreNewSlots jobs slots →
-    AreNewSlots jobs (slots ++ slot ∷ [])
+pub new_more : (jobs : List JobValue) (slots : List SlotState) (job : JobValue) (slot : SlotState) → slice_get jobs
+    (length slots) ≡ Some job → IsNewSlot job slot → AreNewSlots jobs slots → AreNewSlots jobs (slots ++ slot ∷ [])
 new_more [] slots job slot at new each place j s j_at s_at = absurd (none-some j j_at)
 new_more (k ∷ js) [] job slot at new each zero j s j_at s_at = grind (arith, same_Some)
 new_more (k ∷ js) [] job slot at new each (suc place) j s j_at s_at = absurd (none-some s s_at)

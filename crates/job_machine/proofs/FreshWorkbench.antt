@@ -14,7 +14,7 @@ use Rattle.job_machine.specs.declared.workbench.Workplace.{Workplace}
 use Rattle.job_machine.specs.declared.workbench.Workplace.TheVariants as workplace
 use Rattle.job_machine.specs.Machines.{MachineState, recalled}
 use Rattle.job_machine.specs.Workbench.{WorkplaceFits, FitsIn, WorkbenchFits}
-use Rattle.job_machine.proofs.RunningOut.{beside_at}
+use Rattle.job_machine.proofs.Places.{beside_at}
 
 -- a desk for each job, of its words
 abbrev pub fresh : {A : Type 0} → List Task → List (Workplace A)
@@ -35,11 +35,7 @@ pub fresh_more : {A : Type 0} (jobs : List JobValue) (workbench after : List (Wo
     after ≡ fresh_jobs (take next jobs)
 fresh_more {A} jobs workbench after place next desk job next_is within job_is workbench_is desk_is after_is =
     let words_of : JobValue → Workplace A = λ job. workplace.Free job.limits.words in
-    let own : workplace.Free desk ≡ words_of (get_or jobs place job) = ap (λ words. workplace.Free words) desk_is ∙ ap
-    words_of job_is in
-    after_is ∙ ((λ i. workbench_is i ++ own i ∷ []) ∙
-    (sym (map-append words_of (take place jobs) (get_or jobs place job ∷ [])) ∙ ap fresh_jobs
-    (sym (ap (λ k. take k jobs) next_is ∙ take-suc jobs place job within))))
+    rw (after_is, workbench_is, next_is, take-suc jobs place job within, map-append words_of, ← job_is, desk_is)
 
 rests : (s : Standing) → is_in_flight (recalled_standing s) ≡ false
 rests s = grind arith
@@ -55,7 +51,7 @@ fresh_fits : {A : Type 0} (m : MachineState) → length m.standings ≡ length m
 fresh_fits m same zero h is = absurd (none-some h is)
 fresh_fits m same (suc i) h is =
     let t = fresh_at m.tasks i h is in
-    let s = beside_at m.tasks m.standings (sym same) i t.0 t.1 in
+    let s = beside_at m.tasks m.standings same i t.0 t.1 in
     record {
       task = t.0;
       standing = recalled_standing s.0;

@@ -1,13 +1,13 @@
 -- Jobs that run by themselves, from a region without a job to one.
-use Rattle.std.proofs.Common.{◌≡◌, ℕ, zero, suc, ◌+◌, ◌-◌, ◌<◌, ◌≤◌, Bool, true, false, List, [], ◌∷◌, length}
-use Rattle.std.proofs.Common.{replicate, get_or, slice_get, map, set, All, Option, Some, None, refl, sym, ◌∙◌, ap}
-use Rattle.std.proofs.Common.{subst, arith}
-use Rattle.std.specs.Prelude.{◌↔◌, IfSome, IsTrue}
+use Rattle.std.proofs.Common.{◌≡◌, ℕ, zero, suc, ◌+◌, ◌-◌, ◌<◌, ◌≤◌, Bool, true, false, List, length, replicate, get_or}
+use Rattle.std.proofs.Common.{map, set, All, Option, Some, None, refl, sym, ◌∙◌, ap, subst, arith, ◌↔◌, IfSome}
+use Rattle.std.specs.Prelude.{IsTrue}
 use Rattle.std.proofs.lemmas.Bool.{false≢true}
 use Rattle.std.proofs.lemmas.List.{length-map, map-set}
-use Rattle.std.proofs.lemmas.List.Elements.{All-nil, All-cons, All-head, All-tail}
+use Rattle.std.proofs.lemmas.List.Elements.{All-map, All-weaker}
 use Rattle.std.proofs.lemmas.List.Folds.{sum_by-replicate}
-use Rattle.std.proofs.lemmas.Option.{none-some, same_Some, slice_get_read, slice_get_within, get_or_from_slice_get}
+use Rattle.std.proofs.lemmas.Option.{slice_get-get_or, none-some, same_Some, slice_get_read, slice_get_within}
+use Rattle.std.proofs.lemmas.Option.{get_or_from_slice_get}
 use Rattle.vcode_base.specs.declared.rule.Rule.{Rule}
 use Rattle.refcounts.specs.SharedState.{empty_slot, blocks_in, block_count}
 use Rattle.job_memory.specs.JobBlocks.{JobBlocks, ChangesOnlyOf, own_slots}
@@ -52,15 +52,9 @@ lane_numbers alone old between task vacant changes numbers new slot after shows 
 -- what is enough for the words of each job is enough for those of each task
 pub tasks_fit : (rule : Rule) (jobs : List JobValue) (words n : ℕ) → All (λ job. job.limits.words ≤ words) jobs →
     words ≤ n → All (λ (task : Task). task.limits.words ≤ n) (map (ruled rule) jobs)
-tasks_fit rule [] words n all le = All-nil (λ (task : Task). task.limits.words ≤ n)
-tasks_fit rule (j ∷ js) words n all le =
-    grind (
-      arith,
-      All-cons,
-      All-head,
-      All-tail,
-      (tasks_fit rule js words n (All-tail (λ (job : JobValue). job.limits.words ≤ words) j js all) le),
-    )
+tasks_fit rule jobs words n all le =
+    All-map (λ (task : Task). task.limits.words ≤ n) (ruled rule) jobs (All-weaker (λ job. job.limits.words ≤ words)
+    (λ job. job.limits.words ≤ n) (λ job k. omega (arith, k, le)) jobs all)
 
 -- it is enough for those of the job at a place
 pub fits_at : (rule : Rule) (jobs : List JobValue) (place n : ℕ) (job : JobValue) → job ≡ get_or jobs place job →
@@ -70,15 +64,13 @@ fits_at rule jobs place n job is within all =
     (all place (ruled rule job) (omega (arith, within, length-map jobs (ruled rule))))
 
 -- the task of a number
-pub task_of : (rule : Rule) (jobs : List JobValue) (number : ℕ) (job : JobValue) → 1 ≤ number →
-    number - 1 < length jobs → job ≡ get_or jobs (number - 1) job →
-    of_job number (map (ruled rule) jobs) ≡ Some (ruled rule job)
+pub task_of : (rule : Rule) (jobs : List JobValue) (number : ℕ) (job : JobValue) → 1 ≤ number → number - 1 < length jobs
+    → job ≡ get_or jobs (number - 1) job → of_job number (map (ruled rule) jobs) ≡ Some (ruled rule job)
 task_of rule jobs zero job least within is = absurd (omega (arith, least))
 task_of rule jobs (suc place) job least within is =
     let at : suc place - 1 ≡ place = omega arith in
-    slice_get_read (map (ruled rule) jobs) (length (map (ruled rule) jobs)) place (ruled rule job) refl
-    (omega (arith, within, length-map jobs (ruled rule)))
-    (task_read rule jobs place job (subst (λ (k : ℕ). job ≡ get_or jobs k job) at is))
+    slice_get_read (map (ruled rule) jobs) _ place _ refl (omega (arith, within, length-map jobs (ruled rule)))
+    (task_read rule jobs place job (rw at at is))
 
 -- a number that has a task is that of a job, and the task has the rule
 pub record IsNumber (rule : Rule) (jobs : List JobValue) (number : ℕ) (task : Task) : Type 0 where
@@ -160,12 +152,6 @@ pub adopted_state : {p : Parts} {m : MachineState} {job place : ℕ} {task : Tas
     → HasTurn p m job place task before → IsEndOf task end → turned p p.blocks place end ≡ after_adoption true job m
 adopted_state {p} {m} {job} {place} {task} {before} end h e = grind (arith, map-set, shown_machine)
 
--- something is at a place
-something_at : {X : Type 0} (xs : List X) (place : ℕ) → place < length xs → (x : X) × (slice_get xs place ≡ Some x)
-something_at [] place within = absurd (omega (arith, within))
-something_at (x ∷ xs) zero within = (x, refl)
-something_at (x ∷ xs) (suc place) within = something_at xs place (omega (arith, within))
-
 module _ (p : Parts) {m : MachineState} (job place : ℕ) (sound : AreSound p) (view : shown p ≡ m)
     (at : place_of (length m.tasks) job ≡ Some place) where
   -- a place of a job is one of a slot
@@ -180,17 +166,13 @@ module _ (p : Parts) {m : MachineState} (job place : ℕ) (sound : AreSound p) (
   pub adopts : OthersAreShown → ChangesJoin → (task : Option Task) (end : SlotState) →
       CanAdopt m (record { job = job; task = task }) → IfSome task (λ task. IsEndOf task end) → Adopts end
   adopts others join task end can is =
-      let slot = something_at p.slots place slot_within in
-      let t =
-      some_turn p job sound view refl place slot.0 at
-      (sym (get_or_from_slice_get p.slots place slot.0 slot.0 slot.1)) in
-      let waits : standing_of slot.0 ≡ Waiting =
-      same_Some (standing_of slot.0) Waiting (sym t.1.shown_standing ∙ can.waits) in
-      let task_is : task ≡ Some t.0 = sym can.same ∙ t.1.shown_task in
-      let end_is : IsEndOf t.0 end = subst (λ (o : Option Task). IfSome o (λ task. IsEndOf task end)) task_is is in
+      let slot = get_or p.slots place end in
+      let slot_is = sym (get_or_from_slice_get p.slots place _ slot (slice_get-get_or p.slots place end slot_within)) in
+      let t = some_turn p job sound view refl place slot at slot_is in
+      let waits : standing_of slot ≡ Waiting = same_Some _ Waiting (sym t.1.shown_standing ∙ can.waits) in
+      let end_is : IsEndOf t.0 end = rw (sym can.same ∙ t.1.shown_task) at is in
       record {
-        stays_sound =
-            turn_sound t.1 others sound ((join job).none p.blocks)
-            (adopted_shows job p.blocks t.0 slot.0 end (turn_shows t.1 sound) (ap is_waiting waits) end_is);
+        stays_sound = turn_sound t.1 others sound ((join job).none p.blocks) (adopted_shows job p.blocks t.0 slot end
+            (turn_shows t.1 sound) (ap is_waiting waits) end_is);
         state = adopted_state end t.1 end_is;
       }

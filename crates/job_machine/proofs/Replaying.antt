@@ -1,6 +1,6 @@
 -- Events that are played one after another.
 use Rattle.std.proofs.Common.{arith, ◌≡◌, ℕ, zero, suc, ◌<◌, true, false, List, [], ◌∷◌, length, take, get_or}
-use Rattle.std.proofs.Common.{slice_get, Some, Result, Ok, Err, is_err, OnOk, OnErr, sym, ap, subst}
+use Rattle.std.proofs.Common.{slice_get, Some, Result, is_err, OnOk, OnErr, sym, ap, subst}
 use Rattle.std.proofs.lemmas.Bool.{false≢true}
 use Rattle.std.proofs.lemmas.Option.{none-some, same_Some, slice_get-get_or}
 use Rattle.job_steps.specs.declared.event.Event.{Event}

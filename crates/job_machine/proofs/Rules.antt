@@ -1,6 +1,5 @@
 -- Jobs, each with a rule.
-use Rattle.std.proofs.Common.{◌≡◌, List, [], ◌∷◌, max, map, refl, sym, ◌∙◌, ap}
-use Rattle.std.specs.Prelude.{ℕ, fold}
+use Rattle.std.proofs.Common.{◌≡◌, List, [], ◌∷◌, max, map, refl, sym, ◌∙◌, ap, ℕ, fold}
 use Rattle.std.proofs.lemmas.List.Folds.{fold-map}
 use Rattle.vcode_base.specs.declared.rule.Rule.{Rule}
 use Rattle.job_steps.specs.States.{JobValue, Task, ruled}

@@ -1,40 +1,28 @@
 -- A machine with one slot changed is sound, and has the standings after an event.
-use Rattle.std.proofs.Common.{◌≡◌, ℕ, zero, suc, ◌+◌, ◌-◌, ◌<◌, ◌≤◌, true, cond, List, [], ◌∷◌, length, set, get_or}
-use Rattle.std.proofs.Common.{slice_get, All, Option, Some, None, refl, sym, ◌∙◌, ap, subst, arith, inl, inr}
-use Rattle.std.proofs.Common.{length-set}
-use Rattle.std.specs.Prelude.{sum_by, nat_lt, option_map}
+use Rattle.std.proofs.Common.{◌≡◌, ℕ, zero, suc, ◌+◌, ◌-◌, ◌<◌, ◌≤◌, cond, List, [], ◌∷◌, length, set, get_or}
+use Rattle.std.proofs.Common.{slice_get, Option, Some, None, refl, sym, ◌∙◌, ap, subst, arith, inl, inr, length-set}
+use Rattle.std.proofs.Common.{sum_by, nat_lt, option_map}
 use Rattle.std.proofs.lemmas.Bool.{cases_eq, ltb-true}
-use Rattle.std.proofs.lemmas.List.{map-set, set-set}
+use Rattle.std.proofs.lemmas.List.{map-set}
 use Rattle.std.proofs.lemmas.List.Sums.{sum_by-cons}
 use Rattle.std.proofs.lemmas.Option.{none-some, same_Some, cond_some, slice_get_within, slice_get-map}
 use Rattle.refcounts.specs.SharedState.{Slot, blocks_in, words_in, block_count}
 use Rattle.job_memory.specs.JobBlocks.{JobBlocks, ChangesOnlyOf, own_slots, held_words, words_of}
 use Rattle.job_memory.specs.JobBlocks as jobs
 use Rattle.job_steps.specs.declared.event.Event.{Event}
-use Rattle.job_steps.specs.declared.event.Event.TheVariants.{Admit, Begin, Finish}
-use Rattle.job_steps.specs.EventLaws.{ChangesItsJob, EventsChangeTheirJob, OthersPassNobody, ClosedChangeNothing}
-use Rattle.job_steps.specs.EventLaws.{MissingAreClosed}
+use Rattle.job_steps.specs.EventLaws.{ChangesItsJob, EventsChangeTheirJob, ClosedChangeNothing, MissingAreClosed}
 use Rattle.job_steps.specs.Events.{job_of, named_job, after_event, next_standing}
 use Rattle.job_steps.specs.Standings.{Standing, Queue, AreFew, of_job, sum_over, reserved_words, granted_words}
 use Rattle.job_steps.specs.States.{Task}
 use Rattle.job_slots.specs.declared.status.Status.{Status}
-use Rattle.job_slots.specs.declared.status.Status.TheVariants as status
-use Rattle.job_slots.specs.Answers.{or_same, standing_after_step}
+use Rattle.job_slots.specs.Answers.{or_same}
 use Rattle.job_slots.specs.Laws.{OthersAreShown}
 use Rattle.job_machine.specs.Machines.{place_of}
 use Rattle.job_slots.specs.Slots.{SlotState, Shows, standing_of, standing_by, grant_by}
 use Rattle.job_machine.specs.Sound.{IsSound, sum_to, standings_of}
-use Rattle.job_machine.proofs.Places.{get-set_same, get-set_other, set_back}
+use Rattle.job_machine.proofs.Places.{beside_at, get-set_same, get-set_other, set_back}
 
 -- ---- places
-
--- lists of one length have something at the same places
-pub beside_at : {X Y : Type 0} (xs : List X) (ys : List Y) → length ys ≡ length xs → (i : ℕ) (x : X) →
-    slice_get xs i ≡ Some x → (y : Y) × (slice_get ys i ≡ Some y)
-beside_at [] ys same i x e = absurd (none-some x e)
-beside_at (z ∷ xs) [] same i x e = absurd (omega (arith, same))
-beside_at (z ∷ xs) (y ∷ ys) same zero x e = (y, refl)
-beside_at (z ∷ xs) (y ∷ ys) same (suc i) x e = beside_at xs ys (omega (arith, same)) i x e
 
 -- the number of a place
 pub record HasPlace (count job place : ℕ) : Type 0 where
@@ -102,16 +90,13 @@ granted_each : (grants : List (Option ℕ)) (tasks : List Task) (slots : List Sl
     length slots ≡ length tasks → AtEach tasks slots (λ place task slot. get_or grants place None ≡ grant_by task
     slot.status) → sum_by words_of grants ≡ granted_words tasks (standings_of slots)
 granted_each [] [] slots jobs same each = refl
-granted_each [] (t ∷ ts) slots jobs same each = absurd (omega (arith, jobs))
-granted_each (g ∷ gs) [] slots jobs same each = absurd (omega (arith, jobs))
-granted_each (g ∷ gs) (t ∷ ts) [] jobs same each = absurd (omega (arith, same))
 granted_each (g ∷ gs) (t ∷ ts) (s ∷ ss) jobs same each =
-    let grant : g ≡ grant_by t s.status = each 0 t s refl refl in
-    let here : words_of g ≡ reserved_words t (standing_of s) = ap words_of grant ∙ granted_by t s.status
-    s.trace.executed in
+    let here : words_of g ≡ reserved_words t (standing_of s) =
+    ap words_of (each 0 t s refl refl) ∙ granted_by t s.status s.trace.executed in
     let rest = granted_each gs ts ss (omega (arith, jobs)) (omega (arith, same))
     (λ place task slot. each (suc place) task slot) in
     omega (arith, here, rest, sum_by-cons words_of g gs)
+granted_each grants tasks slots jobs same each = absurd (omega (arith, jobs, same))
 
 pub granted_is : {passes : List ℕ} (blocks : JobBlocks) (tasks : List Task) (slots : List SlotState) →
     IsSound blocks tasks slots passes → jobs.granted_words blocks ≡ granted_words tasks (standings_of slots)
@@ -139,14 +124,10 @@ sound_with others old new tasks slots place task slot sound at changes shows =
     let within : suc place ≤ length tasks = omega (arith, slice_get_within tasks place task at) in
     let apart : (k : ℕ) → (k ≡ suc place → ⊥) → own_slots k new ≡ own_slots k old =
     (λ k ne. changes.memory.others k ne) in
-    let blocks =
-    sum_to_changed (length tasks) (suc place) (λ job. blocks_in (own_slots job old))
-    (λ job. blocks_in (own_slots job new))
-    (omega arith) within (λ k ne. ap blocks_in (apart k ne)) in
-    let words =
-    sum_to_changed (length tasks) (suc place) (λ job. held_words job old) (λ job. held_words job new) (omega arith)
-    within
-    (λ k ne. ap words_in (apart k ne)) in
+    let blocks = sum_to_changed (length tasks) (suc place) (λ job. blocks_in (own_slots job old))
+    (λ job. blocks_in (own_slots job new)) (omega arith) within (λ k ne. ap blocks_in (apart k ne)) in
+    let words = sum_to_changed (length tasks) (suc place) (λ job. held_words job old) (λ job. held_words job new)
+    (omega arith) within (λ k ne. ap words_in (apart k ne)) in
     record {
       jobs = changes.jobs ∙ sound.jobs;
       slots_are = length-set slots place slot ∙ sound.slots_are;
@@ -155,21 +136,12 @@ sound_with others old new tasks slots place task slot sound at changes shows =
       few = sound.few;
       least = omega (arith, sound.least, changes.memory.room);
       most = omega (arith, sound.most, changes.memory.room);
-      fitting =
-          subst (λ (room : ℕ). All (λ (task : Task). task.limits.words ≤ room) tasks) (sym changes.memory.room)
-          sound.fitting;
+      fitting = rw changes.memory.room sound.fitting;
       each =
           (λ k other slot_k at_k slot_at. elim (cases_eq place k) [
             | inl e ↦
-                let old = beside_at tasks slots sound.slots_are place task at in
-                let same_task : task ≡ other = same_Some task other (sym at ∙ (ap (slice_get tasks) e ∙ at_k)) in
-                let same_slot : slot ≡ slot_k =
-                same_Some slot slot_k
-                (sym (get-set_same slots place old.0 slot old.1)
-                ∙ (ap (λ (j : ℕ). slice_get (set slots place slot) j) e ∙ slot_at)) in
-                subst (λ (j : ℕ). Shows (suc j) new other slot_k) e
-                (subst (λ (t : Task). Shows (suc place) new t slot_k) same_task
-                (subst (λ (s : SlotState). Shows (suc place) new task s) same_slot shows))
+                let own = beside_at tasks slots sound.slots_are place task at in
+                grind (arith, same_Some, get-set_same, own.1)
             | inr ne ↦
                 others (suc k) (suc place) old new other slot_k changes (λ e. ne (omega (arith, e)))
                 (sound.each k other slot_k at_k (sym (get-set_other slots place k slot (λ e. ne (sym e))) ∙ slot_at))
@@ -201,58 +173,20 @@ after_at region tasks event queue place task old changes at o e = grind (arith, 
 
 -- a slot in the standing after an event, among the others
 pub stands_after : EventsChangeTheirJob → (region : ℕ) (tasks : List Task) (event : Event) (slots : List SlotState)
-    (passes : List ℕ) (place : ℕ) (task : Task) (old new : SlotState) →
-    job_of region tasks event (queue_by slots passes) ≡ Some (suc place) → slice_get tasks place ≡ Some task →
-    slice_get slots place ≡ Some old → standing_of new ≡ or_same (standing_of old)
-    (next_standing event task (standing_of old)) → standings_of (set slots place new) ≡
+    (passes : List ℕ) (place : ℕ) (task : Task) (old new : SlotState) → job_of region tasks event (queue_by slots
+    passes) ≡ Some (suc place) → slice_get tasks place ≡ Some task → slice_get slots place ≡ Some old → standing_of new
+    ≡ or_same (standing_of old) (next_standing event task (standing_of old)) → standings_of (set slots place new) ≡
     (after_event region tasks event (queue_by slots passes)).standings
 stands_after laws region tasks event slots passes place task old new job_is at slot_at stands =
     let here = standing_at slots place old slot_at in
-    let changes = laws region tasks event (queue_by slots passes) (suc place) task (standing_of old) job_is at here in
-    map-set standing_of slots place new ∙ ap (λ (s : Standing). set (standings_of slots) place s) stands ∙ after_at
-    region tasks event (queue_by slots passes) place task (standing_of old) changes here
-    (next_standing event task (standing_of old)) refl
-
--- the queue after an event other than an admission
-pub queue_at : EventsChangeTheirJob → OthersPassNobody → (region : ℕ) (tasks : List Task) (event : Event)
-    (queue : Queue) (place : ℕ) (task : Task) (old : Standing) → (event ≡ Admit → ⊥) →
-    job_of region tasks event queue ≡ Some (suc place) → slice_get tasks place ≡ Some task →
-    slice_get queue.standings place ≡ Some old →
-    record { standings = set queue.standings place (or_same old (next_standing event task old)); passes = queue.passes }
-    ≡ after_event region tasks event queue
-queue_at laws pass region tasks event queue place task old other job_is at here =
-    let changes = laws region tasks event queue (suc place) task old job_is at here in
-    let standings = after_at region tasks event queue place task old changes here (next_standing event task old) refl in
-    let passes = pass region tasks event queue other in
-    λ i. record { standings = standings i; passes = sym passes i }
-
--- a slot in the standing after a begin of its job and a finish after it, among the others
-pub stands_after_step : EventsChangeTheirJob → OthersPassNobody →
-    (region : ℕ) (tasks : List Task) (slots : List SlotState) (passes : List ℕ) (place : ℕ) (task : Task)
-    (old new : SlotState) → slice_get tasks place ≡ Some task → slice_get slots place ≡ Some old →
-    standing_of new ≡ standing_after_step (suc place) task (standing_of old) →
-    queue_by (set slots place new) passes ≡ after_event region tasks (Finish (suc place))
-    (after_event region tasks (Begin (suc place)) (queue_by slots passes))
-stands_after_step laws pass region tasks slots passes place task old new at slot_at stands =
-    let queue : Queue = queue_by slots passes in
-    let begun = or_same (standing_of old) (next_standing (Begin (suc place)) task (standing_of old)) in
-    let between : Queue = record { standings = set queue.standings place begun; passes = passes } in
-    let last = or_same begun (next_standing (Finish (suc place)) task begun) in
-    let here = standing_at slots place old slot_at in
-    let there : slice_get between.standings place ≡ Some begun = get-set_same queue.standings place (standing_of old)
-    begun here in
-    let standings : standings_of (set slots place new) ≡ set between.standings place last = map-set standing_of slots
-    place new ∙ ap (λ (s : Standing). set queue.standings place s) stands ∙ sym
-    (set-set queue.standings place begun last) in
-    (λ i. record { standings = standings i; passes = passes }) ∙ queue_at laws pass region tasks (Finish (suc place))
-    between place task begun (λ e. cc) refl at there ∙ ap (after_event region tasks (Finish (suc place)))
-    (queue_at laws pass region tasks (Begin (suc place)) queue place task (standing_of old) (λ e. cc) refl at here)
+    map-set standing_of slots place new ∙ ap (set (standings_of slots) place) stands
+    ∙ after_at region tasks event (queue_by slots passes) place task _
+    (laws region tasks event (queue_by slots passes) (suc place) task _ job_is at here) here _ refl
 
 -- an event of a job that there isn't changes nothing
-pub missing_after : MissingAreClosed → ClosedChangeNothing → (region : ℕ) (tasks : List Task) (event : Event)
-    (slots : List SlotState) (passes : List ℕ) (job : ℕ) → named_job event ≡ Some job →
-    of_job job (standings_of slots) ≡ None → after_event region tasks event (queue_by slots passes) ≡ queue_by slots
-    passes
+pub missing_after : MissingAreClosed → ClosedChangeNothing → (region : ℕ) (tasks : List Task) (event : Event) (slots :
+    List SlotState) (passes : List ℕ) (job : ℕ) → named_job event ≡ Some job → of_job job (standings_of slots) ≡ None →
+    after_event region tasks event (queue_by slots passes) ≡ queue_by slots passes
 missing_after missing closed region tasks event slots passes job named none =
     closed region tasks event (queue_by slots passes)
     (missing region tasks event (queue_by slots passes) job named none)

@@ -7,19 +7,18 @@ use Rattle.job_steps.specs.declared.event.Event.{Event}
 use Rattle.job_steps.specs.declared.event.Event.TheVariants.{Begin, Finish}
 use Rattle.job_steps.specs.EventLaws.{EventsKeep, EventsUseUp, LeadsJoin, IsVerified, AreKept}
 use Rattle.job_steps.specs.Events.{next_standing, job_of, next_standing_in, is_open, after_event, recalled_standing}
-use Rattle.job_steps.specs.Events.{recalled_standings, standing_after}
+use Rattle.job_steps.specs.Events.{standing_after}
 use Rattle.job_steps.specs.Standings.{Standing, Live, InFlight, Queue, of_job, with_standing}
 use Rattle.job_steps.specs.States.{Task}
 use Rattle.job_steps.specs.Steps.{Progress}
 use Rattle.job_steps.specs.Tickets.{Asked}
 use Rattle.job_slots.specs.declared.answer.Finished.{Finished}
-use Rattle.job_slots.specs.declared.answer.Finished.TheVariants as finished
 use Rattle.job_slots.specs.Answers.{question_at, is_live, or_same, standing_after_step}
 use Rattle.job_machine.specs.Machines.{MachineState, queue_of, machine_after, after_step, HasNoStep, is_running}
 use Rattle.job_machine.specs.Machines.{FinishesIn, StepsLeadIn, after_finished}
 use Rattle.job_machine.proofs.Places.{set_back}
-use Rattle.job_machine.proofs.RunningOut.{of_with, of_with_other, with_twice, no_step_with, beside, happens}
-use Rattle.job_machine.proofs.RunningOut.{fewer_after, goes_on_on}
+use Rattle.job_machine.proofs.RunningOut.{of_with, of_with_other, with_twice, no_step_with, beside, fewer_after}
+use Rattle.job_machine.proofs.RunningOut.{goes_on_on}
 use Rattle.job_machine.proofs.Turns.{Runs, runs_first}
 
 -- ---- a finish
@@ -32,36 +31,23 @@ finished_by task filled answer old next question h6 = grind arith
 -- ---- the standings after an event
 
 -- an event leaves its job in its next standing, or as it was
-after_by : (region : ℕ) (tasks : List Task) (event : Event) (queue : Queue) (job : ℕ) (task : Task) (old : Standing) →
-    job_of region tasks event queue ≡ Some job → of_job job tasks ≡ Some task → of_job job queue.standings ≡ Some old →
+pub after_by : (region : ℕ) (tasks : List Task) (event : Event) (queue : Queue) (job : ℕ) (task : Task)
+    (old : Standing) → job_of region tasks event queue ≡ Some job → of_job job tasks ≡ Some task →
+    of_job job queue.standings ≡ Some old →
     (after_event region tasks event queue).standings ≡ with_standing job (or_same old (next_standing event task old))
     queue.standings
 unfolding after_event
 after_by region tasks event queue job task old job_is task_is old_is = grind (arith, none-some, set_back)
-
--- at its next standing, if the event is open
-pub after_open : (region : ℕ) (tasks : List Task) (event : Event) (queue : Queue) (job : ℕ) (task : Task)
-    (old new : Standing) → job_of region tasks event queue ≡ Some job → of_job job tasks ≡ Some task →
-    of_job job queue.standings ≡ Some old → next_standing event task old ≡ Some new →
-    (after_event region tasks event queue).standings ≡ with_standing job new queue.standings
-after_open region tasks event queue job task old new job_is task_is old_is next =
-    after_by region tasks event queue job task old job_is task_is old_is ∙ ap
-    (λ (s : Option Standing). with_standing job (or_same old s) queue.standings) next
 
 -- a begin and then a finish leave their job as a step does
 pub after_both : (m : MachineState) (job : ℕ) (task : Task) (old : Standing) → of_job job m.tasks ≡ Some task →
     of_job job m.standings ≡ Some old → (after_step job m).standings ≡ with_standing job
     (standing_after_step job task old) m.standings
 after_both m job task old task_is old_is =
-    let begun = or_same old (next_standing (Begin job) task old) in
-    let between = after_event m.region m.tasks (Begin job) (queue_of m) in
-    let first : between.standings ≡ with_standing job begun m.standings = after_by m.region m.tasks (Begin job)
-    (queue_of m) job task old refl task_is old_is in
-    let there : of_job job between.standings ≡ Some begun = ap (of_job job) first ∙ of_with job m.standings old begun
-    old_is in
-    after_by m.region m.tasks (Finish job) between job task begun refl task_is there ∙ ap
-    (with_standing job (standing_after_step job task old)) first ∙ with_twice job m.standings begun
-    (standing_after_step job task old)
+    let first = after_by _ _ (Begin job) (queue_of m) job task old refl task_is old_is in
+    let there = ap (of_job job) first ∙ of_with job m.standings old _ old_is in
+    after_by _ _ (Finish job) (queue_of (machine_after (Begin job) m)) job task _ refl task_is there
+    ∙ ap (with_standing job (standing_after_step job task old)) first ∙ with_twice job m.standings _ _
 
 -- ---- a step
 
@@ -96,35 +82,24 @@ idle_after : (job : ℕ) (task : Task) (begun : Standing) → recalled_standing
     (or_same begun (next_standing (Finish job) task begun)) ≡ or_same begun (next_standing (Finish job) task begun)
 idle_after job task begun = grind (arith, landed)
 
--- a step of a job leaves fewer events
-stepped : EventsUseUp → EventsKeep → LeadsJoin → (m new : MachineState) (job : ℕ) → All IsVerified m.tasks →
-    AreKept m.region m.tasks (queue_of m) → HasNoStep m → IsLiveAt m job → Runs job (after_step job m) new →
-    Runs job m new
-stepped use_up keep join m new job verified kept none h runs =
-    let between : MachineState = machine_after (Begin job) m in
-    let after : Standing = standing_after_step job h.task (Live h.step) in
-    let is : (after_step job m).standings ≡ with_standing job after m.standings =
-    after_both m job h.task (Live h.step) h.task_is h.live_is in
+-- a step of a job goes on, and leaves no more events
+step_runs : EventsUseUp → EventsKeep → (m : MachineState) (job : ℕ) → All IsVerified m.tasks →
+    AreKept m.region m.tasks (queue_of m) → HasNoStep m → IsLiveAt m job → Runs job m (after_step job m)
+step_runs use_up keep m job verified kept none h =
+    let is = after_both m job h.task (Live h.step) h.task_is h.live_is in
     let first =
-    use_up m.region m.tasks verified (Begin job) (queue_of m) kept refl
-    (open_first m job h.task h.step h.task_is h.live_is) in
-    let then = keep m.region m.tasks verified (Begin job ∷ []) (queue_of m) kept in
-    let second =
-    fewer_after use_up (Finish job) job between verified then refl
-    (happens m.region m.tasks (Finish job) (queue_of between) job refl) in
-    let before = runs.no_more in
+    use_up _ _ verified (Begin job) (queue_of m) kept refl (open_first m job h.task h.step h.task_is h.live_is) in
+    let between = machine_after (Begin job) m in
+    let second = fewer_after use_up (Finish job) between verified (keep _ _ verified (Begin job ∷ []) (queue_of m) kept)
+    refl in
     record {
-      goes_on =
-          goes_on_on join job m (after_step job m) new
-          (record {
-            leads = (refl, refl, (Begin job ∷ Finish job ∷ [], refl), refl);
-            no_step =
-                subst (λ (ss : List Standing). recalled_standings ss ≡ ss) (sym is)
-                (no_step_with job m.standings after none
-                (idle_after job h.task (or_same (Live h.step) (next_standing (Begin job) h.task (Live h.step)))));
-            others = λ other ne. ap (of_job other) is ∙ of_with_other job other m.standings after ne;
-          }) runs.goes_on;
-      no_more = omega (arith, first, second, before);
+      goes_on = record {
+        leads = (refl, refl, (Begin job ∷ Finish job ∷ [], refl), refl);
+        no_step = rw is (no_step_with job m.standings _ none (idle_after job h.task
+            (or_same (Live h.step) (next_standing (Begin job) h.task (Live h.step)))));
+        others = λ other ne. ap (of_job other) is ∙ of_with_other job other m.standings _ ne;
+      };
+      no_more = omega (arith, first, second);
     }
 
 -- ---- steps
@@ -134,11 +109,10 @@ pub all_run : EventsUseUp → EventsKeep → LeadsJoin → (count job : ℕ) (m 
 all_run use_up keep join zero job m new verified kept none lead = subst (Runs job m) (sym lead) (runs_first job m none)
 all_run use_up keep join (suc count) job m new verified kept none lead =
     let h = live_at m job kept.same_length (of_job job m.standings) refl lead.0 in
-    let is : (after_step job m).standings ≡ with_standing job (standing_after_step job h.task (Live h.step)) m.standings
-    = after_both m job h.task (Live h.step) h.task_is h.live_is in
-    let none_then : HasNoStep (after_step job m) = subst (λ (ss : List Standing). recalled_standings ss ≡ ss) (sym is)
-    (no_step_with job m.standings (standing_after_step job h.task (Live h.step)) none
-    (idle_after job h.task (or_same (Live h.step) (next_standing (Begin job) h.task (Live h.step))))) in
-    let kept_then = keep m.region m.tasks verified (Begin job ∷ Finish job ∷ []) (queue_of m) kept in
-    stepped use_up keep join m new job verified kept none h
-    (all_run use_up keep join count job (after_step job m) new verified kept_then none_then lead.1)
+    let step = step_runs use_up keep m job verified kept none h in
+    let rest = all_run use_up keep join count job (after_step job m) new verified (keep _ _ verified
+    (Begin job ∷ Finish job ∷ []) (queue_of m) kept) step.goes_on.no_step lead.1 in
+    record {
+      goes_on = goes_on_on join job m _ new step.goes_on rest.goes_on;
+      no_more = omega (arith, step.no_more, rest.no_more);
+    }

@@ -20,25 +20,22 @@ use Rattle.job_steps.specs.States.{JobValue, Task, ruled}
 use Rattle.job_steps.specs.Tickets.{Asked}
 use Rattle.job_slots.specs.declared.status.Status.{Status}
 use Rattle.job_slots.specs.declared.answer.Begun.{Begun}
-use Rattle.job_slots.specs.declared.answer.Begun.TheVariants as begun
 use Rattle.job_slots.specs.declared.answer.Finished.{Finished}
-use Rattle.job_slots.specs.declared.answer.Finished.TheVariants as finished
 use Rattle.job_slots.specs.declared.answer.Stepped.{Stepped}
-use Rattle.job_slots.specs.declared.answer.Stepped.TheVariants as stepped
-use Rattle.job_slots.specs.Answers.{Begins, Finishes, Steps, StepsLead, or_same, after_stepped, question_at}
-use Rattle.job_slots.specs.Answers.{standing_after_begun, standing_after_finished, standing_after_step}
+use Rattle.job_slots.specs.Answers.{Finishes, StepsLead, or_same, after_stepped, question_at, standing_after_begun}
+use Rattle.job_slots.specs.Answers.{standing_after_finished, standing_after_step}
 use Rattle.job_slots.specs.Laws.{OthersAreShown, ShownIsAlone}
 use Rattle.job_slots.specs.Slots.{HasNumbersOnRun, SlotState, Shows, standing_of, standing_by, recalled_status}
 use Rattle.job_slots.specs.Slots.{status_of}
 use Rattle.job_machine.specs.declared.machine.Machine.TheInside.{Inside}
-use Rattle.job_machine.specs.Machines.{MachineState, place_of, machine_after, BeginsIn, StepsLeadIn, asked_in}
-use Rattle.job_machine.specs.Machines.{is_running, FinishesIn, StepsIn, after_begun, after_finished, after_step}
+use Rattle.job_machine.specs.Machines.{MachineState, place_of, machine_after, StepsLeadIn, asked_in, is_running}
+use Rattle.job_machine.specs.Machines.{FinishesIn, after_begun, after_finished, after_step}
 use Rattle.job_machine.specs.SlotOf.{IsMissing, IsSlotOf}
 use Rattle.job_machine.specs.Sound.{IsSound, standings_of}
 use Rattle.job_machine.specs.TurnLaws.{TurnLaws}
-use Rattle.job_machine.proofs.Places.{get-set_same, set_back}
-use Rattle.job_machine.proofs.SoundLemmas.{queue_by, place_is, beside_at, standing_at, stands_after, stands_after_step}
-use Rattle.job_machine.proofs.SoundLemmas.{missing_after, sound_with, sum_is, sum_within, granted_is}
+use Rattle.job_machine.proofs.Places.{beside_at, get-set_same, set_back}
+use Rattle.job_machine.proofs.SoundLemmas.{queue_by, place_is, standing_at, stands_after, missing_after, sound_with}
+use Rattle.job_machine.proofs.SoundLemmas.{sum_is, sum_within, granted_is}
 use Rattle.std.proofs.lemmas.Bool.{ltb-false}
 
 abbrev pub shown_machine : Rule → JobBlocks → List Task → List SlotState → List ℕ → MachineState
@@ -82,9 +79,8 @@ pub record HasTurn (p : Parts) (m : MachineState) (job place : ℕ) (task : Task
   pub shown_task : of_job job m.tasks ≡ Some task
   pub shown_standing : of_job job m.standings ≡ Some (standing_of slot)
 
-pub turn_at : (p : Parts) {m : MachineState} (job place : ℕ) (task : Task) (slot : SlotState) → shown p ≡ m →
-    job ≡ suc place → slice_get p.tasks place ≡ Some task → slice_get p.slots place ≡ Some slot →
-    HasTurn p m job place task slot
+pub turn_at : (p : Parts) {m : MachineState} (job place : ℕ) (task : Task) (slot : SlotState) → shown p ≡ m → job ≡ suc
+    place → slice_get p.tasks place ≡ Some task → slice_get p.slots place ≡ Some slot → HasTurn p m job place task slot
 turn_at p job place task slot view job_is task_at slot_at = grind (arith, shown, standing_at)
 
 -- the task of a job that is read among the jobs
@@ -104,20 +100,17 @@ module _ (p : Parts) {m : MachineState} (job : ℕ) {o : Option ℕ} (sound : Ar
       slot ≡ get_or p.slots place slot → HasTurn p m job place task slot
   has_turn place task slot some task_is slot_is =
       let within = within_jobs place some in
-      let is = place_is (length p.tasks) job place
-      (ap (λ (m : MachineState). place_of (length m.tasks) job) view ∙ (sym o_is ∙ some)) in
-      turn_at p job place task slot view is.job_is
-      (slice_get_read p.tasks (length p.tasks) place task refl within task_is)
-      (slice_get_read p.slots (length p.slots) place slot refl (omega (arith, within, sound.slots_are)) slot_is)
+      let is = place_is (length p.tasks) job place (cc (view, o_is, some)) in
+      turn_at p job place task slot view is.job_is (slice_get_read p.tasks _ place task refl within task_is)
+      (slice_get_read p.slots _ place slot refl (omega (arith, within, sound.slots_are)) slot_is)
 
   -- the same if the task isn't read
   pub some_turn : (place : ℕ) (slot : SlotState) → o ≡ Some place → slot ≡ get_or p.slots place slot →
       (task : Task) × HasTurn p m job place task slot
   some_turn place slot some slot_is =
-      let within = within_jobs place some in
-      let slot_at = slice_get_read p.slots (length p.slots) place slot refl (omega (arith, within, sound.slots_are))
-      slot_is in
-      let task = beside_at p.slots p.tasks (sym sound.slots_are) place slot slot_at in
+      let within : place < length p.slots = omega (arith, within_jobs place some, sound.slots_are) in
+      let task = beside_at p.slots p.tasks (sym sound.slots_are) place slot
+      (slice_get_read p.slots (length p.slots) place slot refl within slot_is) in
       (task.0, has_turn place task.0 slot some (sym (get_or_from_slice_get p.tasks place task.0 task.0 task.1)) slot_is)
 
   pub missing : o ≡ None → IsMissing job m
@@ -145,9 +138,8 @@ pub record IsLent {A : Type 0} (i : Inside A) (m : MachineState) (number place :
   pub turn : (job : JobValue) (slot : SlotState) → job ≡ get_or (arc_value i.jobs).items place job →
       slot ≡ get_or i.slots.items place slot → TurnOf i m number place job slot
 
-pub is_lent : {A : Type 0} (i : Inside A) {m : MachineState} (number : ℕ) {place : ℕ} {o : Option ℕ} →
-    AreSound (parts i) → shown (parts i) ≡ m → o ≡ place_of (length m.tasks) number → o ≡ Some place →
-    IsLent i m number place
+pub is_lent : {A : Type 0} (i : Inside A) {m : MachineState} (number : ℕ) {place : ℕ} {o : Option ℕ} → AreSound (parts
+    i) → shown (parts i) ≡ m → o ≡ place_of (length m.tasks) number → o ≡ Some place → IsLent i m number place
 is_lent i number {place} sound view o_is some =
     let within = within_jobs (parts i) number sound view o_is place some in
     record {
@@ -163,15 +155,13 @@ is_lent i number {place} sound view o_is some =
 module _ {p : Parts} {m : MachineState} {job place : ℕ} {task : Task} {before : SlotState}
     (h : HasTurn p m job place task before) where
   pub turn_shows : AreSound p → Shows job p.blocks task before
-  turn_shows sound =
-      subst (λ (j : ℕ). Shows j p.blocks task before) (sym h.job_is) (sound.each place task before h.task_at h.slot_at)
+  turn_shows sound = rw h.job_is (sound.each place task before h.task_at h.slot_at)
 
   pub turn_sound : OthersAreShown → AreSound p → {new : JobBlocks} {after : SlotState} →
       ChangesOnlyOf job p.blocks new → Shows job new task after → IsSound new p.tasks (set p.slots place after) p.passes
   turn_sound others sound {new} {after} changes shows =
-      sound_with others p.blocks new p.tasks p.slots place task after sound h.task_at
-      (subst (λ (j : ℕ). ChangesOnlyOf j p.blocks new) h.job_is changes)
-      (subst (λ (j : ℕ). Shows j new task after) h.job_is shows)
+      sound_with others p.blocks new p.tasks p.slots place task after sound h.task_at (rw h.job_is at changes)
+      (rw h.job_is at shows)
 
   -- the desk has the words of the job
   pub turn_fits : (words : ℕ) → All (λ task. task.limits.words ≤ words) p.tasks → task.limits.words ≤ words
@@ -179,18 +169,9 @@ module _ {p : Parts} {m : MachineState} {job place : ℕ} {task : Task} {before 
 
   -- ---- answers
 
-  pub begins_in : {A : Type 0} (words : ℕ) (answer : Begun A) → Begins job words task (standing_of before) answer →
-      BeginsIn job words (of_job job m.tasks) (of_job job m.standings) answer
-  begins_in words answer begins = rw (h.shown_task, h.shown_standing) begins
-
-  pub finishes_in : (filled : Asked) → job ≡ filled.job → (answer : Finished) →
-      Finishes job task (standing_of before) filled answer → FinishesIn filled (of_job filled.job m.tasks)
-      (of_job filled.job m.standings) answer
+  pub finishes_in : (filled : Asked) → job ≡ filled.job → (answer : Finished) → Finishes job task (standing_of before)
+      filled answer → FinishesIn filled (of_job filled.job m.tasks) (of_job filled.job m.standings) answer
   finishes_in filled same answer finishes = grind arith
-
-  pub steps_in : (words : ℕ) (answer : Stepped) → Steps job words task (standing_of before) answer →
-      StepsIn job words (of_job job m.tasks) (of_job job m.standings) answer
-  steps_in words answer steps = rw (h.shown_task, h.shown_standing) steps
 
   -- what the job of a step asks is what the task that has the turn asks
   pub own_question : (filled : Asked) → job ≡ filled.job → asked_in m.tasks filled.job filled.step ≡ Some
@@ -201,11 +182,10 @@ module _ {p : Parts} {m : MachineState} {job place : ℕ} {task : Task} {before 
 
   module _ (new : JobBlocks) (after : SlotState) (room : new.memory.room ≡ p.blocks.memory.room) where
     -- what the event makes of it, with the passes that the event leaves
-    pub turn_to : EventsChangeTheirJob → (event : Event) (late : List ℕ) →
-        job_of p.blocks.memory.room p.tasks event (queue_by p.slots p.passes) ≡ Some job →
-        standing_of after ≡ or_same (standing_of before) (next_standing event task (standing_of before)) →
-        late ≡ (after_event p.blocks.memory.room p.tasks event (queue_by p.slots p.passes)).passes →
-        shown_machine p.rule new p.tasks (set p.slots place after) late ≡ machine_after event m
+    pub turn_to : EventsChangeTheirJob → (event : Event) (late : List ℕ) → job_of p.blocks.memory.room p.tasks event
+        (queue_by p.slots p.passes) ≡ Some job → standing_of after ≡ or_same (standing_of before) (next_standing event
+        task (standing_of before)) → late ≡ (after_event p.blocks.memory.room p.tasks event (queue_by p.slots
+        p.passes)).passes → shown_machine p.rule new p.tasks (set p.slots place after) late ≡ machine_after event m
     turn_to changed event late named stands late_is =
         grind (arith, stands_after, shown_machine, shown, changed, event, stands, late_is)
 
@@ -228,16 +208,6 @@ module _ {p : Parts} {m : MachineState} {job place : ℕ} {task : Task} {before 
           (or_same (standing_of before) (next_standing (Finish job) task (standing_of before))) →
           turned p new place after ≡ after_finished answer m (machine_after (Finish job) m)
       finished_state answer stands = grind (arith, turn_state, turn_still)
-
-      -- a step in one go
-      step_state : standing_of after ≡ standing_after_step job task (standing_of before) →
-          turned p new place after ≡ after_step job m
-      step_state stands = grind (arith, stands_after_step, turned, shown)
-
-      pub stepped_state : (answer : Stepped) → standing_of after ≡ after_stepped answer (standing_of before)
-          (standing_after_step job task (standing_of before)) → turned p new place after ≡ after_stepped answer m
-          (after_step job m)
-      stepped_state answer stands = grind (arith, step_state, turn_still)
 
 pub recalled_stands : (job : ℕ) (task : Task) (s : Status) (n : ℕ) →
     standing_by (recalled_status s) n ≡ or_same (standing_by s n) (next_standing (Recall job) task (standing_by s n))
@@ -270,6 +240,25 @@ turn_with {p} {m} {job} {place} {task} {before} new after h view =
     turn_at (record p { blocks = new; slots = set p.slots place after }) job place task after view h.job_is h.task_at
     (get-set_same p.slots place before after h.slot_at)
 
+-- a step in one go is a begin and then a finish of a slot that stands in between
+module _ {p : Parts} {m : MachineState} {job place : ℕ} {task : Task} {before : SlotState}
+    (h : HasTurn p m job place task before) (new : JobBlocks) (after : SlotState)
+    (room : new.memory.room ≡ p.blocks.memory.room) (laws : TurnLaws) where
+  step_state : standing_of after ≡ standing_after_step job task (standing_of before) →
+      turned p new place after ≡ after_step job m
+  step_state stands =
+      let begun = or_same (standing_of before) (next_standing (Begin job) task (standing_of before)) in
+      let mid = stands_as begun before in
+      let so = stands_so begun before in
+      let there = turn_state h p.blocks mid refl laws (Begin job) (λ e. cc) refl so in
+      rw set-set at (turn_state (turn_with p.blocks mid h there) new after room laws (Finish job) (λ e. cc) refl
+      (subst (λ s. standing_of after ≡ or_same s (next_standing (Finish job) task s)) (sym so) stands))
+
+  pub stepped_state : (answer : Stepped) → standing_of after ≡ after_stepped answer (standing_of before)
+      (standing_after_step job task (standing_of before)) → turned p new place after ≡ after_stepped answer m
+      (after_step job m)
+  stepped_state answer stands = grind (arith, step_state, (turn_still h new after room))
+
 -- the steps of a job lead the machine to where they lead the job
 pub run_state : (count : ℕ) {p : Parts} {m : MachineState} {job place : ℕ} {task : Task} {before : SlotState} →
     TurnLaws → HasTurn p m job place task before → (new : JobBlocks) (after : SlotState) →
@@ -277,25 +266,18 @@ pub run_state : (count : ℕ) {p : Parts} {m : MachineState} {job place : ℕ} {
     StepsLeadIn count job m (turned p new place after)
 run_state zero laws h new after room lead = turn_still h new after room lead
 run_state (suc count) {p} {m} {job} {place} {task} {before} laws h new after room lead =
-    let next : Standing = standing_after_step job task (standing_of before) in
-    let mid : SlotState = stands_as next before in
-    let so : standing_of mid ≡ next = stands_so next before in
-    let there : turned p p.blocks place mid ≡ after_step job m = step_state h p.blocks mid refl laws so in
-    let rest : StepsLeadIn count job (after_step job m)
-    (shown_machine p.rule new p.tasks (set (set p.slots place mid) place after) p.passes) =
-    run_state count laws (turn_with p.blocks mid h there) new after room
-    (subst (λ (s : Standing). StepsLead count job task s (standing_of after)) (sym so) lead.1) in (
-      ap is_running h.shown_standing ∙ lead.0,
-      subst (λ (ss : List SlotState). StepsLeadIn count job (after_step job m)
-          (shown_machine p.rule new p.tasks ss p.passes)) (set-set p.slots place mid after) rest,
-    )
+    let next = standing_after_step job task (standing_of before) in
+    let mid = stands_as next before in
+    let so = stands_so next before in
+    let rest = run_state count laws (turn_with p.blocks mid h (step_state h p.blocks mid refl laws so)) new after room
+    (subst (λ (s : Standing). StepsLead count job task s (standing_of after)) (sym so) lead.1) in
+    (ap is_running h.shown_standing ∙ lead.0, rw set-set at rest)
 
 -- ---- what a machine keeps
 
 -- a standing that is shown is that of a slot
-mapped_at : (slots : List SlotState) (place : ℕ) (standing : Standing) →
-    slice_get (standings_of slots) place ≡ Some standing → (slot : SlotState) × (slice_get slots place ≡ Some slot) ×
-    (standing_of slot ≡ standing)
+mapped_at : (slots : List SlotState) (place : ℕ) (standing : Standing) → slice_get (standings_of slots) place ≡ Some
+    standing → (slot : SlotState) × (slice_get slots place ≡ Some slot) × (standing_of slot ≡ standing)
 mapped_at [] place standing e = absurd (none-some standing e)
 mapped_at (s ∷ slots) zero standing e = (s, refl, same_Some (standing_of s) standing e)
 mapped_at (s ∷ slots) (suc place) standing e = mapped_at slots place standing e
@@ -319,8 +301,7 @@ module _ {passes : List ℕ} (alone : ShownIsAlone) (blocks : JobBlocks) (tasks 
   on_run tidy zero task standing t s = absurd (none-some task t)
   on_run tidy (suc place) task standing t s =
       let slot = mapped_at slots place standing s in
-      subst (StandsOnRun task) slot.2 (alone (suc place) blocks task slot.0 tidy
-      (sound.each place task slot.0 t slot.1)).stands
+      rw slot.2 at (alone (suc place) blocks task slot.0 tidy (sound.each place task slot.0 t slot.1)).stands
 
   pub are_kept : IsTidy blocks.memory → jobs.granted_words blocks ≤ blocks.memory.room →
       AreKept blocks.memory.room tasks (queue_by slots passes)
@@ -337,8 +318,8 @@ pub all_verified : {passes : List ℕ} (blocks : JobBlocks) (tasks : List Task) 
     IsSound blocks tasks slots passes → All IsVerified tasks
 all_verified blocks tasks slots sound place d within =
     let task_at = slice_get-get_or tasks place d within in
-    let slot = beside_at tasks slots sound.slots_are place (get_or tasks place d) task_at in
-    (sound.each place (get_or tasks place d) slot.0 task_at slot.1).verified
+    let slot = beside_at tasks slots sound.slots_are place _ task_at in
+    (sound.each place _ slot.0 task_at slot.1).verified
 
 -- what a slot shows
 pub slot_in : ShownIsAlone → (p : Parts) {m : MachineState} (job place : ℕ) {o : Option ℕ} (slot : SlotState) →

@@ -1,6 +1,5 @@
 -- The greatest words of jobs.
-use Rattle.std.proofs.Common.{◌≡◌, ℕ, ◌+◌, ◌<◌, ◌≤◌, max, List, take, get_or, length, All, arith}
-use Rattle.std.specs.Prelude.{fold}
+use Rattle.std.proofs.Common.{◌≡◌, ℕ, ◌+◌, ◌<◌, ◌≤◌, max, List, take, get_or, length, All, arith, fold}
 use Rattle.std.proofs.lemmas.List.Elements.{All-more, All-weaker}
 use Rattle.std.proofs.lemmas.List.Sums.{fold_more}
 use Rattle.job_steps.specs.States.{JobValue}
@@ -15,8 +14,7 @@ more_within jobs place old new any within all no_less fits =
     (take place jobs) all) fits
 
 -- the most words of one more job: the greater of the most before it and its own
-pub most_more : (jobs : List JobValue) (place old new : ℕ) (any : JobValue) → place < length jobs →
-    old ≡ fold (λ most job. max most job.limits.words) 0 (take place jobs) →
-    new ≡ max old (get_or jobs place any).limits.words → new ≡ fold (λ most job. max most job.limits.words) 0
-    (take (place + 1) jobs)
+pub most_more : (jobs : List JobValue) (place old new : ℕ) (any : JobValue) → place < length jobs → old ≡ fold (λ most
+    job. max most job.limits.words) 0 (take place jobs) → new ≡ max old (get_or jobs place any).limits.words → new ≡
+    fold (λ most job. max most job.limits.words) 0 (take (place + 1) jobs)
 most_more jobs place old new any within so_far greater = grind (arith, fold_more)

@@ -222,6 +222,7 @@ fn same_rule(left: Rule, right: Rule) -> bool
 /// # Errors
 ///
 /// [`AllocError`] if memory for the slot or for the results was refused.
+#[tactic(auto, using(crate::proofs::LaneLemmas::lane_numbers))]
 fn run_apart<A: Allocator + Clone>(
     alloc: A,
     rule: Rule,

@@ -134,6 +134,7 @@ impl<A: Allocator + Clone> Machine<A> {
     ///
     /// [`AllocError`] if memory for the results was refused, which comes only at a job that returned. Nothing
     /// changes then.
+    #[tactic(auto, using(crate::proofs::TurnLemmas::is_lent))]
     pub fn collect(&mut self, job: usize) -> Result<bool, AllocError>
         ensures answer { IfOk result (λ yes. yes ≡ is_over (of_job job self.old.standings)) }
         ensures state { OnOk result (self.new ≡ machine_after (Collect job) self.old) }
@@ -209,6 +210,7 @@ impl<A: Allocator> Machine<A> {
     ///
     /// A job whose budget is spent, whose operands do not fit one another, or whose next instruction would pass a
     /// limit, ends here.
+    #[tactic(auto, using(crate::proofs::TurnLemmas::is_lent))]
     pub fn begin(&mut self, job: usize, desk: Desk<A>) -> Begun<A>
         ensures answer { BeginsIn job desk (of_job job self.old.tasks) (of_job job self.old.standings) result }
         ensures state { self.new ≡ after_begun result self.old (machine_after (Begin job) self.old) }
@@ -227,6 +229,7 @@ impl<A: Allocator> Machine<A> {
 
     /// Commits a step that was computed, if it is the one of its job that has begun, with the same instruction and
     /// operands. The desk comes back.
+    #[tactic(auto, using(crate::proofs::TurnLemmas::is_lent, crate::proofs::TurnLemmas::numbers_left))]
     pub fn finish(&mut self, filled: Filled<A>) -> (Finished, Desk<A>)
         ensures answer { FinishesIn filled (of_job filled.job self.old.tasks)
             (of_job filled.job self.old.standings) result.0 }
@@ -250,6 +253,7 @@ impl<A: Allocator> Machine<A> {
 
     /// Commits a step that was computed, as `finish` does, but compares no operands: the step is known to ask what its
     /// job asks at its number. `Stale` exactly if no step of this number is in flight.
+    #[tactic(auto, using(crate::proofs::TurnLemmas::is_lent, crate::proofs::TurnLemmas::numbers_left))]
     pub fn finish_own(&mut self, filled: Filled<A>) -> (Finished, Desk<A>)
         requires { asked_in self.old.tasks filled.job filled.step ≡ Some filled.question }
         ensures answer { FinishesIn filled (of_job filled.job self.old.tasks)
@@ -277,6 +281,7 @@ impl<A: Allocator> Machine<A> {
     /// At `Done` and `Ended` the job is as a begin and then the finish of that step leave it. `NotReady` exactly if
     /// there is no such job, or it waits, a step of it has begun, or it is over. `SmallDesk` exactly if it is live and
     /// the desk has fewer words than the job. Nothing changes then.
+    #[tactic(auto, using(crate::proofs::TurnLemmas::is_lent, crate::proofs::TurnLemmas::numbers_left))]
     #[inline(always)]
     pub fn step(&mut self, job: usize, desk: &mut Desk<A>) -> Stepped
         ensures answer { StepsIn job desk.old (of_job job self.old.tasks) (of_job job self.old.standings) result }
@@ -298,6 +303,7 @@ impl<A: Allocator> Machine<A> {
     }
 
     /// Carries out the instructions of a job, if it is live, until it is over, on a desk of at least its words.
+    #[tactic(auto, using(crate::proofs::TurnLemmas::is_lent))]
     pub(crate) fn take_steps(&mut self, job: usize, desk: &mut Desk<A>)
         requires { All (λ task. task.limits.words ≤ desk.old) self.old.tasks }
         ensures ran { HasRunIn job self.old self.new }
@@ -325,6 +331,7 @@ impl<A: Allocator> Machine<A> {
 
     /// Takes over the end of a job that ran by itself; true if the machine has that job at its number, with its rule,
     /// and it waits. It is collected then. Else nothing changes.
+    #[tactic(auto, using(crate::proofs::LaneLemmas::slot_within))]
     pub fn adopt(&mut self, ended: EndedJob<A>) -> bool
         ensures answer { IsTrue result ↔ CanAdopt self.old ended }
         ensures state { self.new ≡ after_adoption result ended.job self.old }
@@ -340,6 +347,7 @@ impl<A: Allocator> Machine<A> {
     }
 
     /// The place of the job of an end, counted from 0, if the machine has that job, with its rule, and it waits.
+    #[tactic(auto, using(crate::proofs::LaneLemmas::waits_as, crate::proofs::TurnLemmas::is_lent))]
     fn place_for(&self, ended: &EndedJob<A>) -> Option<usize>
         ensures place { IfSome result (λ place. place_of (length self.now.tasks) ended.now.job ≡ Some place) }
         ensures can { IfSome result (λ _. CanAdopt self.now ended.now) }
@@ -412,6 +420,7 @@ impl<A: Allocator> Machine<A> {
 
     /// How often a job was passed by, or `None` for no such job: how many jobs after it were admitted while it waited.
     /// Once it is admitted this stays.
+    #[tactic(auto, using(crate::proofs::TurnLemmas::passed_in, crate::proofs::TurnLemmas::passed_missing))]
     pub fn passed(&self, job: usize) -> Option<u8>
         ensures value { result ≡ of_job job self.now.passes }
         ensures few { IfSome result (λ count. count ≤ MOST_PASSES) }
@@ -462,6 +471,7 @@ impl<A: Allocator> Machine<A> {
     }
 
     /// The words of the job that has the most, and 0 if there is no job: a desk of this number serves each job.
+    #[tactic(auto, using(crate::proofs::Rules::most_ruled))]
     pub fn most_words(&self) -> usize
         ensures value { result ≡ most_words self.now.tasks }
         ensures each { All (λ task. task.limits.words ≤ result) self.now.tasks }
@@ -478,6 +488,7 @@ impl<A: Allocator> Machine<A> {
     }
 
     /// Whether these are the machine's jobs, in order.
+    #[tactic(auto, using(crate::proofs::Rules::same_without))]
     pub fn holds(&self, jobs: &[Job<A>]) -> bool
         ensures { IsTrue result ↔ (self.now.tasks ≡ map (ruled self.now.rule) jobs.now) }
     {

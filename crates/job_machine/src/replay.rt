@@ -78,6 +78,7 @@ impl<A: Allocator + Clone> Machine<A> {
     }
 
     /// Does events in order; the error has the place of the event that was refused memory.
+    #[tactic(auto, using(crate::proofs::Replaying::at_err, crate::proofs::Replaying::refused_at))]
     fn play_all(&mut self, events: &[Event], workbench: &mut Workbench<A>) -> Result<(), usize>
         requires { WorkbenchFits self.old workbench.old }
         ensures ok { OnOk result (self.new ≡ after_all events.now self.old) }
@@ -108,6 +109,7 @@ impl<A: Allocator> Machine<A> {
     }
 
     /// Begins the next step of a job on the desk in its workplace, and computes it if it began.
+    #[tactic(auto, using(crate::proofs::WorkbenchLemmas::plays_no_begin))]
     fn play_begin(&mut self, job: usize, workbench: &mut Workbench<A>)
         requires { WorkbenchFits self.old workbench.old }
         ensures state { self.new ≡ machine_after (Begin job) self.old }
@@ -122,6 +124,7 @@ impl<A: Allocator> Machine<A> {
     }
 
     /// Finishes the step that the workplace of a job holds.
+    #[tactic(auto, using(crate::proofs::WorkbenchLemmas::plays_no_finish))]
     fn play_finish(&mut self, job: usize, workbench: &mut Workbench<A>)
         requires { WorkbenchFits self.old workbench.old }
         ensures state { self.new ≡ machine_after (Finish job) self.old }
@@ -136,6 +139,7 @@ impl<A: Allocator> Machine<A> {
     }
 
     /// Gives up the step that the workplace of a job holds.
+    #[tactic(auto, using(crate::proofs::WorkbenchLemmas::plays_no_recall))]
     fn play_recall(&mut self, job: usize, workbench: &mut Workbench<A>)
         requires { WorkbenchFits self.old workbench.old }
         ensures state { self.new ≡ machine_after (Recall job) self.old }

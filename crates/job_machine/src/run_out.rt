@@ -56,6 +56,7 @@ impl<A: Allocator + Clone> Machine<A> {
     }
 
     /// Runs all jobs that don't wait to their ends, and collects them.
+    #[tactic(auto, using(crate::proofs::Turns::words_on))]
     fn run_admitted(&mut self, desk: &mut Desk<A>) -> Result<(), AllocError>
         requires words { All (λ task. task.limits.words ≤ desk.old) self.old.tasks }
         requires no_step { HasNoStep self.old }

@@ -35,6 +35,7 @@ pub(crate) fn new_slots<A: Allocator + Clone>(
 }
 
 /// The cells of all jobs together.
+#[tactic(auto, using(std::proofs::lemmas::List::Sums::sum_by_more))]
 pub(crate) fn all_cells<A: Allocator>(jobs: &[Job<A>]) -> usize
     requires { length jobs.now ≤ MOST_JOBS }
     ensures cells { result ≡ sum_by (λ job. job.limits.cells) jobs.now }
@@ -48,6 +49,7 @@ pub(crate) fn all_cells<A: Allocator>(jobs: &[Job<A>]) -> usize
 }
 
 /// The words of the job that has the most, and 0 if there is none.
+#[tactic(auto, using(std::proofs::lemmas::List::take_all))]
 pub(crate) fn most_words<A: Allocator>(jobs: &[Job<A>]) -> usize
     ensures value { result ≡ fold (λ most job. max most job.limits.words) 0 jobs.now }
     ensures each { All (λ job. job.limits.words ≤ result) jobs.now }
@@ -62,6 +64,7 @@ pub(crate) fn most_words<A: Allocator>(jobs: &[Job<A>]) -> usize
 
 /// What an admission answers: the first job that waits and whose words fit, unless a job that waits before it was
 /// passed by as often as a job may be.
+#[tactic(auto, using(crate::proofs::Admissions::rest_ends))]
 pub(crate) fn next_admission<A: Allocator>(
     blocks: &JobMemory<A>,
     jobs: &[Job<A>],

@@ -91,6 +91,7 @@ impl<A: Allocator> Workbench<A> {
     }
 
     /// Takes the desk of a job, if its workplace is free, and leaves the workplace empty.
+    #[tactic(auto, using(crate::proofs::WorkbenchLemmas::takes_none))]
     pub(crate) fn take_desk(&mut self, job: usize) -> Option<Desk<A>>
         ensures { Takes workplace.Free job self.old self.new result }
     {
@@ -104,6 +105,7 @@ impl<A: Allocator> Workbench<A> {
     }
 
     /// Takes the step of a job, if its workplace holds one, and leaves the workplace empty.
+    #[tactic(auto, using(crate::proofs::WorkbenchLemmas::takes_none))]
     pub(crate) fn take_filled(&mut self, job: usize) -> Option<Filled<A>>
         ensures { Takes workplace.Holds job self.old self.new result }
     {

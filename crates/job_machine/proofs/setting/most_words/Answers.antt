@@ -1,6 +1,5 @@
 use Rattle.std.proofs.Common.{arith}
 use Rattle.std.proofs.lemmas.Grind.{common_steps}
-use Rattle.std.proofs.lemmas.List.{take_all}
 use Rattle.job_machine.proofs.WordLemmas.{more_within, most_more}
 use Rattle.job_machine.proofs.setting.most_words.Goals as goal
 
@@ -15,9 +14,3 @@ loop-job-preserved g c =
           (grind (arith, common_steps)) inv.each (grind (arith, common_steps)) (grind (arith, common_steps));
       within = grind (arith, common_steps);
     }
-
-pub returns-clause-value : goal.returns-clause-value
-returns-clause-value g c = grind (arith, take_all, common_steps)
-
-pub returns-clause-each : goal.returns-clause-each
-returns-clause-each g c = grind (arith, take_all, common_steps)

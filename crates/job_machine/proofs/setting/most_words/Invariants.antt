@@ -1,5 +1,4 @@
-use Rattle.std.proofs.Common.{◌≡◌, ◌≤◌, max, take}
-use Rattle.std.specs.Prelude.{All, fold}
+use Rattle.std.proofs.Common.{◌≡◌, ◌≤◌, max, take, All, fold}
 use Rattle.vcode_base.specs.declared.limits.TheConstants.{MOST_WORDS}
 use Rattle.job_machine.proofs.setting.most_words.Given as goal
 

@@ -1,21 +1,10 @@
 -- A begin moves its job alone; without a job nothing changes.
-use Rattle.std.proofs.Common.{arith}
-use Rattle.job_machine.proofs.TurnLemmas.{TurnOf, is_lent, begins_in, begun_state, turn_shows, turn_sound}
-use Rattle.job_machine.proofs.machine.Machine.begin.Given.{Over}
+use Rattle.job_machine.proofs.TurnLemmas.{TurnOf, is_lent, begun_state, turn_shows, turn_sound}
 use Rattle.job_machine.proofs.machine.Machine.begin.Goals as goal
 use Rattle.job_machine.proofs.machine.Machine.begin.Goals.{After-job_at}
 
-pub index_mut-slot-requires : goal.index_mut-slot-requires
-index_mut-slot-requires g c =
-    let lent = is_lent c.self.inside c.args.job c.self.invariant c.self.view_is c.place.ensures c.in-Some.is in
-    omega (arith, lent.among_slots, c.self.inside.slots.ok)
-
-pub job_at-requires : goal.job_at-requires
-job_at-requires g c =
-    (is_lent c.self.inside c.args.job c.self.invariant c.self.view_is c.place.ensures c.in-Some.is).among_jobs
-
 -- the job has the turn
-turn : (g : Over) (c : goal.After-job_at g) → TurnOf c.self.inside c.args.self.now c.args.job c.in-Some.place
+turn : (g : _) (c : goal.After-job_at g) → TurnOf c.self.inside c.args.self.now c.args.job c.in-Some.place
     c.job_at.result.now c.index_mut-slot.result.now
 turn g c =
     (is_lent c.self.inside c.args.job c.self.invariant c.self.view_is c.place.ensures c.in-Some.is).turn _ _
@@ -29,12 +18,11 @@ invariant_of-self g c =
     turn_sound (turn g (goal.at.invariant_of-self g c).After-job_at) c.turn_laws.ensures.others c.self.invariant
     c.begin.ensures.others c.begin.ensures.shows
 
-pub returns-clause-answer : goal.returns-clause-answer
-returns-clause-answer g c =
-    begins_in (turn g (goal.at.returns-clause-answer g c).After-job_at) c.args.desk c.begin.result
-    c.begin.ensures.answer
-
-pub returns-clause-state : goal.returns-clause-state
-returns-clause-state g c =
-    begun_state (turn g (goal.at.returns-clause-state g c).After-job_at) c.begin.new.blocks c.begin.new.self
-    c.begin.ensures.others.memory.room c.turn_laws.ensures c.begin.result c.begin.ensures.standing
+pub returns : goal.returns
+returns g c =
+    let turn = turn g (goal.at.returns g c).After-job_at in
+    record {
+      answer = rw (turn.shown_task, turn.shown_standing) c.begin.ensures.answer;
+      state = begun_state turn c.begin.new.blocks c.begin.new.self c.begin.ensures.others.memory.room
+          c.turn_laws.ensures c.begin.result c.begin.ensures.standing;
+    }

@@ -1,26 +1,14 @@
 -- A collection moves its job alone; refused, or without a job, it changes nothing.
-use Rattle.std.proofs.Common.{◌≡◌, Some, refl, sym, ap, ◌∙◌, arith}
-use Rattle.std.proofs.lemmas.Result.{IfOk-weaker, on_ok_weaker, on_err_weaker}
+use Rattle.std.proofs.Common.{Some, refl, ap, ◌∙◌}
+use Rattle.std.proofs.lemmas.Result.{on_ok_weaker, on_err_weaker}
 use Rattle.job_steps.specs.declared.event.Event.TheVariants.{Collect}
-use Rattle.job_steps.specs.Standings.{of_job}
 use Rattle.job_steps.specs.States.{ruled}
-use Rattle.job_slots.specs.Answers.{is_ended}
 use Rattle.job_slots.specs.Slots.{standing_of}
-use Rattle.job_machine.specs.Machines.{is_over}
 use Rattle.job_machine.proofs.TurnLemmas.{TurnOf, is_lent, no_turn, parts, turn_shows, turn_sound, turn_state}
 use Rattle.job_machine.proofs.TurnLemmas.{turn_still}
 use Rattle.job_machine.proofs.machine.Machine.collect.Given.{Over}
 use Rattle.job_machine.proofs.machine.Machine.collect.Goals as goal
 use Rattle.job_machine.proofs.machine.Machine.collect.Goals.{After-job_at}
-
-pub index_mut-slot-requires : goal.index_mut-slot-requires
-index_mut-slot-requires g c =
-    let lent = is_lent c.self.inside c.args.job c.self.invariant c.self.view_is c.place.ensures c.in-Some.is in
-    omega (arith, lent.among_slots, c.self.inside.slots.ok)
-
-pub job_at-requires : goal.job_at-requires
-job_at-requires g c =
-    (is_lent c.self.inside c.args.job c.self.invariant c.self.view_is c.place.ensures c.in-Some.is).among_jobs
 
 -- the job has the turn
 turn : (g : Over) (c : goal.After-job_at g) → TurnOf c.self.inside c.args.self.now c.args.job c.in-Some.place
@@ -37,36 +25,24 @@ invariant_of-self g c =
     turn_sound (turn g (goal.at.invariant_of-self g c).After-job_at) c.turn_laws.ensures.others c.self.invariant
     c.collect.ensures.others c.collect.ensures.shows
 
-pub returns-clause-answer : goal.returns-clause-answer
-returns-clause-answer g c =
-    let turn = turn g (goal.at.returns-clause-answer g c).After-job_at in
-    IfOk-weaker c.collect.result (λ yes. yes ≡ is_ended (standing_of c.index_mut-slot.result.now))
-    (λ yes. yes ≡ is_over (of_job c.args.job c.args.self.now.standings))
-    (λ yes e. e ∙ sym (ap is_over turn.shown_standing)) c.collect.ensures.answer
-
-pub returns-clause-state : goal.returns-clause-state
-returns-clause-state g c =
-    on_ok_weaker c.collect.result (turn_state (turn g (goal.at.returns-clause-state g c).After-job_at)
-    c.collect.new.blocks c.collect.new.self c.collect.ensures.others.memory.room c.turn_laws.ensures
-    (Collect c.args.job) (λ e. cc) refl) c.collect.ensures.standing
-
-pub returns-clause-unchanged : goal.returns-clause-unchanged
-returns-clause-unchanged g c =
-    on_err_weaker c.collect.result (λ same. turn_still (turn g (goal.at.returns-clause-unchanged g c).After-job_at)
-    c.collect.new.blocks c.collect.new.self c.collect.ensures.others.memory.room (ap standing_of same.0))
-    c.collect.ensures.unchanged
-
-pub returns-clause-returned : goal.returns-clause-returned
-returns-clause-returned g c =
-    let turn = turn g (goal.at.returns-clause-returned g c).After-job_at in
-    on_err_weaker c.collect.result
-    (λ is. record {
-      task = ruled c.self.inside.rule c.job_at.result.now;
-      task_is = turn.shown_task;
-      ended = turn.shown_standing ∙ ap (λ s. Some s) is.0;
-      returned = is.1;
-    })
-    c.collect.ensures.returned
+pub returns : goal.returns
+returns g c =
+    let turn = turn g (goal.at.returns g c).After-job_at in
+    let blocks = c.collect.new.blocks in
+    let room = c.collect.ensures.others.memory.room in
+    record {
+      answer = simp turn.shown_standing c.collect.ensures.answer;
+      state = on_ok_weaker c.collect.result (turn_state turn blocks c.collect.new.self room c.turn_laws.ensures
+          (Collect c.args.job) (λ e. cc) refl) c.collect.ensures.standing;
+      unchanged = on_err_weaker c.collect.result (λ same. turn_still turn blocks c.collect.new.self room
+          (ap standing_of same.0)) c.collect.ensures.unchanged;
+      returned = on_err_weaker c.collect.result (λ is. record {
+        task = ruled c.self.inside.rule c.job_at.result.now;
+        task_is = turn.shown_task;
+        ended = turn.shown_standing ∙ ap (λ s. Some s) is.0;
+        returned = is.1;
+      }) c.collect.ensures.returned;
+    }
 
 pub returns-in_default-clause-state : goal.returns-in_default-clause-state
 returns-in_default-clause-state g c =

@@ -1,14 +1,9 @@
-use Rattle.std.proofs.Common.{arith, ◌≤◌, List, All, subst}
+use Rattle.std.proofs.Common.{◌≤◌}
 use Rattle.std.proofs.lemmas.List.Elements.{All-map}
 use Rattle.job_steps.specs.States.{Task, ruled}
-use Rattle.job_machine.proofs.Rules.{most_ruled}
 use Rattle.job_machine.proofs.machine.Machine.most_words.Goals as goal
-
-pub returns-clause-value : goal.returns-clause-value
-returns-clause-value g c = grind (arith, most_ruled)
 
 pub returns-clause-each : goal.returns-clause-each
 returns-clause-each g c =
-    subst (λ (ts : List Task). All (λ (task : Task). task.limits.words ≤ c.most_words.result) ts) c.in_order.ensures
-    (All-map (λ (task : Task). task.limits.words ≤ c.most_words.result) (ruled c.args.self.now.rule)
-    c.in_order.result.now c.most_words.ensures.each)
+    rw (← c.in_order.ensures) (All-map (λ (task : Task). task.limits.words ≤ c.most_words.result)
+    (ruled c.args.self.now.rule) c.in_order.result.now c.most_words.ensures.each)

@@ -3,9 +3,6 @@ use Rattle.std.proofs.lemmas.List.{take_all}
 use Rattle.job_machine.proofs.FreshWorkbench.{fresh, fresh_jobs, fresh-ruled, fresh_more, fresh_fit}
 use Rattle.job_machine.proofs.workbench.Workbench.new.Goals as goal
 
-pub loop-job-init : goal.loop-job-init
-loop-job-init g c = c.in_ok-workplaces.ensures.items
-
 pub loop-job-preserved : goal.loop-job-preserved
 loop-job-preserved g c =
     fresh_more c.in_order-jobs.result.now c.loop-job.workplaces.items c.push.new.self.items c.loop-job.job-index

@@ -1,13 +1,8 @@
-use Rattle.std.proofs.Common.{arith}
 use Rattle.job_machine.specs.declared.workbench.Workplace.TheVariants as workplace
-use Rattle.job_machine.proofs.WorkbenchLemmas.{takes_none, takes_other}
+use Rattle.job_machine.proofs.WorkbenchLemmas.{takes_other}
 use Rattle.job_machine.proofs.workbench.Workbench.take_desk.Goals as goal
-
-pub returns-in_err-other : goal.returns-in_err-other
-returns-in_err-other g c = grind (arith, takes_none)
 
 pub returns-in_default : goal.returns-in_default
 returns-in_default g c =
-    takes_other (λ taken. workplace.Free taken) c.args.job c.args.self.now c.exchange.new.self
-    c.exchange-in_default.new.self c.in_ok-other.other c.in_ok-other.ensures.own c.in_ok-other.ensures.state
+    takes_other (λ taken. workplace.Free taken) c.args.job _ _ _ _ c.in_ok-other.ensures.own c.in_ok-other.ensures.state
     c.exchange-in_default.ensures.state c.in_default.not-Free
