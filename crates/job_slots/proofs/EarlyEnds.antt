@@ -1,5 +1,5 @@
 -- What ends a job that runs before its next instruction.
-use Rattle.std.proofs.Common.{◌≡◌, ℕ, ℤ, ◌+◌, ◌≤◌, Bool, ltb, min, List, [], ◌∷◌, length, Option}
+use Rattle.std.proofs.Common.{◌≡◌, ℕ, ℤ, ◌+◌, ◌≤◌, ltb, min, List, [], ◌∷◌, length, Option}
 use Rattle.std.proofs.Common.{Some, None, refl, sym, ◌∙◌, ap, subst, arith}
 use Rattle.std.specs.Prelude.{option_map}
 use Rattle.std.proofs.lemmas.Bool.Decides.{nat_tests}
@@ -15,6 +15,8 @@ use Rattle.vcode_base.specs.Meaning.{shape, need}
 use Rattle.vcode_reader.specs.Trees.{Function}
 use Rattle.refcounts.specs.SharedState.{Slot, IsTidy}
 use Rattle.job_memory.specs.JobBlocks.{JobBlocks, AreOwn, own_slots}
+use Rattle.job_steps.specs.declared.flow.Flow.{Flow}
+use Rattle.job_steps.specs.Flows.{flow_of}
 use Rattle.job_steps.specs.declared.frame.Frame.{Frame}
 use Rattle.job_steps.specs.Buffers.{HaveAtMost}
 use Rattle.job_steps.specs.EventLaws.{IsVerified, EarlyEndsEnd}
@@ -24,7 +26,7 @@ use Rattle.job_steps.specs.Motions.{depth_after, operand_count}
 use Rattle.job_steps.specs.Questions.{Question, need_words}
 use Rattle.job_steps.specs.Runs.{state_after}
 use Rattle.job_steps.specs.States.{Task, Active, State}
-use Rattle.job_steps.specs.Steps.{Ending, Running, next_item, question_of, ending_by, memory_fault, flag_of, held_at}
+use Rattle.job_steps.specs.Steps.{Ending, Running, next_item, question_of, ending_by, memory_fault, held_at}
 use Rattle.job_steps.specs.StepLaws.{CanBegin, StepsCanBegin, StepsCanAdvance}
 use Rattle.job_steps.specs.Tickets.{AreResults, CanAnswer, question_by}
 use Rattle.job_steps.specs.Tracks.{TrackState, IsAt, functions_of}
@@ -198,16 +200,16 @@ asks_on begins advances slots task t run op sources verified next goes_on words 
 -- what is made of its results, whose words count as those that are held and needed
 pub is_made : ResultsHaveNeededLengths → (task : Task) (job : ℕ) (blocks : JobBlocks) (t : TrackState ℕ) (op : Op)
     (sources : List (List ℤ)) (needs : Needs) → IsReady task job blocks t op sources needs → (first second : List ℤ)
-    (flag : Bool) → AreResults (question_by op sources) first second → flag ≡ flag_of (question_by op sources) →
-    IsAnswered task t.executed op flag first second
+    (flow : Flow) → AreResults (question_by op sources) first second → flow ≡ flow_of (question_by op sources) →
+    IsAnswered task t.executed op flow first second
     × CountsAs (held_under task.rule job op t.cells blocks + length first + length second) t.peak needs.words
-is_made law task job blocks t op sources needs ready first second flag results flag_is =
+is_made law task job blocks t op sources needs ready first second flow results flow_is =
     let can = (ready.can_ask task.limits.words (omega arith)).can in (
       record {
         question = question_by op sources;
         asked = ready.next;
         op_is = refl;
-        flag_is = flag_is;
+        flow_is = flow_is;
         results = results;
       },
       grind (arith, length_by_kinds),

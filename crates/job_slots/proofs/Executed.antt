@@ -17,6 +17,8 @@ use Rattle.vcode_reader.specs.Trees.{Item}
 use Rattle.signatures.specs.Signatures.{Signature}
 use Rattle.refcounts.specs.SharedState.{Slot, occurrences, IsTidy}
 use Rattle.job_memory.specs.JobBlocks.{JobBlocks, own_slots}
+use Rattle.job_steps.specs.declared.flow.Flow.{Flow}
+use Rattle.job_steps.specs.Flows.{IsFlowOf, flow_by, flow_of}
 use Rattle.job_steps.specs.EventLaws.{OthersAreReady}
 use Rattle.job_steps.specs.Events.{early_end}
 use Rattle.job_steps.specs.Motions.{stack_after}
@@ -94,6 +96,10 @@ pub asked_is : (task : Task) (n : ℕ) (s : State) (call : Active) (outer : List
 unfolding question_at
 asked_is task n s call outer question running calls asked = grind arith
 
+-- the flow of an instruction, whatever the flag of an IF
+is_flow_of : (op : Op) (flag : Bool) → IsFlowOf op (flow_by op flag)
+is_flow_of op flag = grind arith
+
 -- ---- one step in flight
 
 module _ (laws : Laws) (signatures : List Signature) (task : Task) (verified : IsVerifiedTask signatures task) (job : ℕ)
@@ -111,8 +117,8 @@ module _ (laws : Laws) (signatures : List Signature) (task : Task) (verified : I
   abbrev op : Op
   op = op_of item
 
-  abbrev flag : Bool
-  flag = flag_of (question_of item s.stack)
+  abbrev flow : Flow
+  flow = flow_of (question_of item s.stack)
 
   can : CanAdvance task s t item
   can = laws.steps_can_advance signatures task verified t.executed s t running at early call outer calls
@@ -158,7 +164,7 @@ module _ (laws : Laws) (signatures : List Signature) (task : Task) (verified : I
 
   module _ (form : Rule) (ids : List ℕ) (new : JobBlocks) (u : TrackState ℕ)
       (has : HasSettled form job op first second t.cells ids old new)
-      (advances : Advances task.verified op flag ids
+      (advances : Advances task.verified op flow ids
       (held_under task.rule job op t.cells old + length first + length second) t u) where
     made : NewCells form job op t.cells ids s.next (vectors_of (result_kinds op) (first ∷ second ∷ [])) old new
     made = grind (arith, new_cells, op, two_results)
@@ -188,31 +194,33 @@ module _ (laws : Laws) (signatures : List Signature) (task : Task) (verified : I
         record {
           after = rw (next, results.no_fault) (is_after (own_slots job new) task u item s _
               (ap (state_after task) (sym at.executed) ∙ running)
-              (return_leaves task.verified flag call.rest call.ret outer) where_is now_holds);
+              (return_leaves task.verified (flag_of (question_of item s.stack)) call.rest call.ret outer) where_is
+              now_holds);
           others = commits.others;
         }
 
-  can_execute : CanExecute job old task t op flag first second
+  can_execute : CanExecute job old task t op flow first second
   can_execute = record {
     two = two_results op;
     room = omega (arith, can.room, words_are);
     can_settle = can_settle;
     goes_past = record { unspent = can.unspent; deep = can.deep; cells = can.cells; follows = can.follows };
+    flows = is_flow_of op (flag_of (question_of item s.stack));
     executes = executed;
   }
 
 pub executable : Laws → StepsExecute
-executable laws job old task t op flag first second flying verified tidy answered =
+executable laws job old task t op flow first second flying verified tidy answered =
     let run = flying.run in
     let ready = laws.others_are_ready verified.0 task verified.1 t.executed run.state run.running flying.goes_on in
     let same = asked_is _ _ _ _ _ _ run.running ready.calls answered.asked in
     let found = can_execute laws verified.0 task verified.1 job old t run.state run.running run.at run.holds
     flying.goes_on tidy ready.call ready.outer ready.calls first second (rw same answered.results) ready.next in
-    rw (answered.op_is, answered.flag_is, ← same) found
+    rw (answered.op_is, answered.flow_is, ← same) found
 
 -- the instruction is executed if blocks have its results and the track went past it
-pub executed_past : {job : ℕ} {old new : JobBlocks} {task : Task} {t u : TrackState ℕ} {op : Op} {flag : Bool}
-    {first second : List ℤ} {form : Rule} {ids : List ℕ} {held : ℕ} → CanExecute job old task t op flag first second →
+pub executed_past : {job : ℕ} {old new : JobBlocks} {task : Task} {t u : TrackState ℕ} {op : Op} {flow : Flow}
+    {first second : List ℤ} {form : Rule} {ids : List ℕ} {held : ℕ} → CanExecute job old task t op flow first second →
     HasSettled form job op first second t.cells ids old new → held ≡ held_under task.rule job op t.cells old →
-    Advances task.verified op flag ids (held + length first + length second) t u → IsExecuted job old new task t u
+    Advances task.verified op flow ids (held + length first + length second) t u → IsExecuted job old new task t u
 executed_past can has held_is advances = can.executes _ _ _ _ has (rw (← held_is) advances)

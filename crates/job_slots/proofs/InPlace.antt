@@ -20,11 +20,13 @@ use Rattle.refcounts.specs.SharedState.{IsTidy, empty_slot, slot_at}
 use Rattle.job_memory.specs.JobBlocks.{JobBlocks, own_slots, held_words, with_block}
 use Rattle.job_slots.specs.Commits.{IsExchanged, blocks_beside, taken_ids}
 use Rattle.job_slots.specs.Executions.{HeldIsCounted}
+use Rattle.job_steps.specs.declared.flow.Flow.TheVariants.{Next}
 use Rattle.job_steps.specs.EventLaws.{IsVerified}
+use Rattle.job_steps.specs.Flows.{flow_by}
 use Rattle.job_steps.specs.Questions.{Question}
 use Rattle.job_steps.specs.States.{Task}
 use Rattle.job_steps.specs.StepLaws.{CanBegin, StepsCanBegin}
-use Rattle.job_steps.specs.Steps.{next_item, question_of, flag_of}
+use Rattle.job_steps.specs.Steps.{next_item, question_of}
 use Rattle.job_steps.specs.Tickets.{AreResults, question_by}
 use Rattle.job_steps.specs.Tracks.{TrackState}
 use Rattle.job_slots.specs.Answers.{IsNext}
@@ -62,13 +64,18 @@ module _ (law : StepsCanBegin ℕ) (counted : HeldIsCounted) (job : ℕ) (blocks
       let there = are_there job blocks.memory t.cells run.state.stack run.holds in
       grind (arith, same, read_on_top, same_top)
 
-  pub is_placeable : (first second : ℕ) (flag : Bool) → HaveKinds (source_kinds op) sources → shape op sources ≡ None →
+  pub is_placeable : (first second : ℕ) → HaveKinds (source_kinds op) sources → shape op sources ≡ None →
       length (result_kinds op) ≡ result_count second → need op sources ≡ (first, second) →
-      flag ≡ flag_of (question_by op sources) → held_words job blocks + first + second ≤ task.limits.words →
-      IsPlaceable task job blocks t (record { op = op; first = first; second = second; flag = flag })
-  is_placeable first second flag kinds shaped count needs flag_is room =
+      held_words job blocks + first + second ≤ task.limits.words →
+      IsPlaceable task job blocks t (record { op = op; first = first; second = second })
+  is_placeable first second kinds shaped count needs room =
       let is = counted task.rule job blocks item run.state t.cells run.holds tidy in
       grind (arith, item, operands_are, op_is, deep_enough)
+
+-- an instruction with a result goes on at what follows it
+pub goes_next : (op : Op) (second : ℕ) → length (result_kinds op) ≡ result_count second → (flag : Bool) →
+    Next ≡ flow_by op flag
+goes_next op second count flag = grind arith
 
 -- ---- the results
 

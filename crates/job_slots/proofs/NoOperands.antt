@@ -1,5 +1,5 @@
 -- The next instruction of a job, if it has no operands.
-use Rattle.std.proofs.Common.{◌≡◌, ℕ, ℤ, ◌+◌, ◌≤◌, Bool, ltb, List, [], ◌∷◌, length, None, refl, sym, ◌∙◌}
+use Rattle.std.proofs.Common.{◌≡◌, ℕ, ℤ, ◌+◌, ◌≤◌, ltb, List, [], ◌∷◌, length, None, refl, sym, ◌∙◌}
 use Rattle.std.proofs.Common.{ap, subst, arith}
 use Rattle.vcode_base.specs.declared.limits.Limits.{Limits}
 use Rattle.vcode_base.specs.declared.op.Op.{Op}
@@ -12,13 +12,15 @@ use Rattle.vcode_reader.specs.Pools.{list_in}
 use Rattle.vcode_reader.specs.Trees.{Item}
 use Rattle.refcounts.specs.SharedState.{IsTidy}
 use Rattle.job_memory.specs.JobBlocks.{JobBlocks, own_slots, held_words}
+use Rattle.job_steps.specs.declared.flow.Flow.{Flow}
+use Rattle.job_steps.specs.Flows.{flow_of}
 use Rattle.job_steps.specs.EventLaws.{IsVerified}
 use Rattle.job_steps.specs.Motions.{depth_after, operand_count}
 use Rattle.job_steps.specs.Questions.{need_words}
 use Rattle.job_steps.specs.Reached.{IsReached, Reaches}
 use Rattle.job_steps.specs.States.{Task, StackEntry, State, held_words as stack_words}
 use Rattle.job_steps.specs.StepLaws.{CanBegin, StepsCanBegin}
-use Rattle.job_steps.specs.Steps.{ending_by, flag_of, held_at, memory_fault, next_item, question_of, sources_of}
+use Rattle.job_steps.specs.Steps.{ending_by, held_at, memory_fault, next_item, question_of, sources_of}
 use Rattle.job_steps.specs.Tickets.{AreResults, question_by}
 use Rattle.job_steps.specs.Tracks.{TrackState}
 use Rattle.job_slots.specs.Answers.{IsAnswered, IsNext, early_end_at}
@@ -43,7 +45,7 @@ record IsPlain (o : Op) (list : List ℤ) : Type 0 where
   shaped : shape o (sources_by o list) ≡ None
   needs : need o (sources_by o list) ≡ (length list, 0)
   results : AreResults (question_by o (sources_by o list)) list []
-  flag_is : flag_of (question_by o (list ∷ [])) ≡ flag_of (question_by o (sources_by o list))
+  flow_is : flow_of (question_by o []) ≡ flow_of (question_by o (sources_by o list))
 
 plain : (item : Item) → HasNoOperands (op_of item) → IsPlain (op_of item) (list_in item)
 unfolding shape need value_fault result_of second_result_of
@@ -104,12 +106,12 @@ module _ (begins : StepsCanBegin ℕ) (number : ℕ) (blocks : JobBlocks) (task 
   is_next = grind (arith, question_when, asked)
 
   -- its results are its list, and no second one
-  pub answered : (flag : Bool) → flag ≡ flag_of (question_by o (list ∷ [])) → IsAnswered task t.executed o flag list []
-  answered flag flag_is = record {
+  pub answered : (flow : Flow) → flow ≡ flow_of (question_by o []) → IsAnswered task t.executed o flow list []
+  answered flow flow_is = record {
     question = question_by o (sources_by o list);
     asked = is_next;
     op_is = refl;
-    flag_is = flag_is ∙ is_plain.flag_is;
+    flow_is = flow_is ∙ is_plain.flow_is;
     results = is_plain.results;
   }
 

@@ -8,6 +8,8 @@ use Rattle.vcode_base.specs.Instructions.{op_of}
 use Rattle.vcode_base.specs.Meaning.{shape}
 use Rattle.refcounts.specs.SharedState.{block_count}
 use Rattle.job_memory.specs.JobBlocks.{JobBlocks, ChangesOnlyOf}
+use Rattle.job_steps.specs.declared.flow.Flow.{Flow}
+use Rattle.job_steps.specs.Flows.{flow_of}
 use Rattle.job_steps.specs.declared.event.Event.TheVariants as event
 use Rattle.job_steps.specs.Buffers.{HaveAtMost}
 use Rattle.job_steps.specs.Events.{early_end, next_standing}
@@ -16,7 +18,7 @@ use Rattle.job_steps.specs.Questions.{Question, need_words}
 use Rattle.job_steps.specs.Runs.{state_after, outcome, executed_count, peak}
 use Rattle.job_steps.specs.Standings.{Standing, Live, InFlight, Ended}
 use Rattle.job_steps.specs.States.{Task, Active, State}
-use Rattle.job_steps.specs.Steps.{Ending, Progress, Running, Over, Stuck, next_item, question_of, flag_of, words_at}
+use Rattle.job_steps.specs.Steps.{Ending, Progress, Running, Over, Stuck, next_item, question_of, words_at}
 use Rattle.job_steps.specs.Steps.{held_at, sources_of}
 use Rattle.job_steps.specs.Tickets.{Asked, AreResults, CanAnswer, question_by}
 use Rattle.job_steps.specs.Tracks.{functions_of}
@@ -275,12 +277,12 @@ HasRun job task old new = (count : ℕ) × StepsLead count job task old new
 
 -- ---- results
 
--- these are the instruction, the choice and the results of what a step asks
-pub record IsAnswered (task : Task) (n : ℕ) (op : Op) (flag : Bool) (first second : List ℤ) : Type 0 where
+-- these are the instruction, its flow and the results of what a step asks
+pub record IsAnswered (task : Task) (n : ℕ) (op : Op) (flow : Flow) (first second : List ℤ) : Type 0 where
   pub question : Question
   pub asked : question_at task n ≡ Some question
   pub op_is : op ≡ question.op
-  pub flag_is : flag ≡ flag_of question
+  pub flow_is : flow ≡ flow_of question
   pub results : AreResults question first second
 
 -- a job that ends so, with these counts, and not by return

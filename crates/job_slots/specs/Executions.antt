@@ -1,5 +1,5 @@
 -- What holds of the next instruction of a job whose step is in flight: that it can be executed, and the state after it.
-use Rattle.std.specs.Prelude.{◌≡◌, ℕ, ℤ, ◌+◌, ◌^◌, ◌<◌, ◌≤◌, Bool, List, [], ◌∷◌, length, All}
+use Rattle.std.specs.Prelude.{◌≡◌, ℕ, ℤ, ◌+◌, ◌^◌, ◌<◌, ◌≤◌, List, [], ◌∷◌, length, All}
 use Rattle.vcode_base.specs.declared.op.Op.{Op}
 use Rattle.vcode_base.specs.declared.op.Op.TheVariants.{Move}
 use Rattle.vcode_base.specs.declared.op.StackMove.TheVariants.{Copy}
@@ -8,7 +8,9 @@ use Rattle.vcode_base.specs.Instructions.{op_of}
 use Rattle.vcode_base.specs.Kinds.{result_kinds}
 use Rattle.vcode_reader.specs.Trees.{Item}
 use Rattle.refcounts.specs.SharedState.{IsTidy, empty_slot, slot_at}
+use Rattle.job_steps.specs.declared.flow.Flow.{Flow}
 use Rattle.job_steps.specs.EventLaws.{IsVerified}
+use Rattle.job_steps.specs.Flows.{IsFlowOf}
 use Rattle.job_steps.specs.Motions.{depth_after}
 use Rattle.job_steps.specs.Runs.{state_after}
 use Rattle.job_steps.specs.States.{Task, State}
@@ -27,7 +29,7 @@ use Rattle.job_slots.specs.Slots.{IsFlyingSlot, IsAfter}
 
 -- this is what the next instruction of a job makes, and its words count as those that are held and needed
 pub record IsMade (task : Task) (job : ℕ) (blocks : JobBlocks) (t : TrackState ℕ) (made : Made) : Type 0 where
-  pub answered : IsAnswered task t.executed made.op made.flag made.first.now made.second.now
+  pub answered : IsAnswered task t.executed made.op made.flow made.first.now made.second.now
   pub counted : CountsAs (held_under task.rule job made.op t.cells blocks + length made.first.now
       + length made.second.now) t.peak made.words
 
@@ -95,19 +97,20 @@ pub record IsExecuted (job : ℕ) (old new : JobBlocks) (task : Task) (t u : Tra
 
 -- The instruction has at most two results, for which the job's words have room. Its operands can be taken off the
 -- stack, and the track can go past. If blocks have the results, that executes it.
-pub record CanExecute (job : ℕ) (old : JobBlocks) (task : Task) (t : TrackState ℕ) (op : Op) (flag : Bool)
+pub record CanExecute (job : ℕ) (old : JobBlocks) (task : Task) (t : TrackState ℕ) (op : Op) (flow : Flow)
     (first second : List ℤ) : Type 0 where
   pub two : length (result_kinds op) ≤ 2
   pub room : held_under task.rule job op t.cells old + length first + length second ≤ task.limits.words
   pub can_settle : CanSettle job op t.cells old
   pub goes_past : CanGoPast task.verified t op
+  pub flows : IsFlowOf op flow
   pub executes : (form : Rule) (ids : List ℕ) (new : JobBlocks) (u : TrackState ℕ) →
       HasSettled form job op first second t.cells ids old new →
-      Advances task.verified op flag ids (held_under task.rule job op t.cells old + length first + length second) t u →
+      Advances task.verified op flow ids (held_under task.rule job op t.cells old + length first + length second) t u →
       IsExecuted job old new task t u
 
 abbrev pub StepsExecute : Type 0
 StepsExecute =
-    (job : ℕ) (old : JobBlocks) (task : Task) (t : TrackState ℕ) (op : Op) (flag : Bool) (first second : List ℤ) →
+    (job : ℕ) (old : JobBlocks) (task : Task) (t : TrackState ℕ) (op : Op) (flow : Flow) (first second : List ℤ) →
     IsFlyingSlot (own_slots job old) task t → IsVerified task → IsTidy old.memory →
-    IsAnswered task t.executed op flag first second → CanExecute job old task t op flag first second
+    IsAnswered task t.executed op flow first second → CanExecute job old task t op flow first second

@@ -12,7 +12,6 @@ use Rattle.refcounts.specs.SharedState.{slot_in}
 use Rattle.job_memory.specs.JobBlocks.{JobBlocks, AreOwn, ChangesOnlyOf, held_words, own_slots}
 use Rattle.job_steps.specs.Motions.{operand_count}
 use Rattle.job_steps.specs.States.{Task}
-use Rattle.job_steps.specs.Steps.{flag_of}
 use Rattle.job_steps.specs.Tickets.{AreResults, question_by}
 use Rattle.job_steps.specs.Tracks.{TrackState}
 use Rattle.job_slots.specs.declared.in_place.Placement.{Placement}
@@ -70,7 +69,6 @@ pub record KeepsReferences (job : ℕ) (old new : JobBlocks) : Type 0 where
 -- results, of these numbers of words
 pub record IsPlaceable (task : Task) (job : ℕ) (blocks : JobBlocks) (t : TrackState ℕ) (p : Placement) : Type 0 where
   pub question : question_at task t.executed ≡ Some (question_by p.op (operands_in blocks p.op t.cells))
-  pub flag_is : p.flag ≡ flag_of (question_by p.op (operands_in blocks p.op t.cells))
   pub can : CanCompute p.op (operands_in blocks p.op t.cells) (p.first, p.second)
   pub count : length (result_kinds p.op) ≡ result_count p.second
   pub deep : operand_count p.op ≤ length t.cells

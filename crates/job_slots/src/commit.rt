@@ -1,7 +1,7 @@
 //! What an instruction that is executed does to the cells and the blocks.
 
 ghost use Rattle.std.specs.Prelude.{◌≡◌, ◌+◌, ◌<◌, ◌≤◌, length, reverse, Some, IfSome, MatchResult};
-ghost use Rattle.vcode_base.specs.declared.op.Op.TheVariants.{Return};
+ghost use Rattle.job_steps.specs.declared.flow.Flow.TheVariants.{Return};
 ghost use Rattle.vcode_base.specs.declared.rule.Rule.{Rule};
 ghost use Rattle.vcode_base.specs.Kinds.{result_kinds};
 ghost use Rattle.vcode_base.specs.Meaning.{value_fault};
@@ -24,7 +24,7 @@ use crate::turn::Turn;
 use block_memory::BlockId;
 use job_memory::JobMemory;
 use job_memory::laws::releases_change_only_their_job;
-use job_steps::{Filled, Job, Track};
+use job_steps::{Filled, Flow, Job, Track};
 use refcounts::laws::releases_only_free;
 use std::alloc::Allocator;
 use vcode_base::{DataFault, Op, Rule, StackMove};
@@ -51,12 +51,11 @@ impl NewBlocks {
     }
 }
 
-/// What an instruction makes: its results, and the words that are held and needed at it.
+/// What an instruction makes: how the calls go on, its results, and the words that are held and needed at it.
 #[derive(Clone, Copy)]
 pub(crate) struct Made<'a> {
     pub(crate) op: Op,
-    /// Whether the first word of the first operand is other than 0.
-    pub(crate) flag: bool,
+    pub(crate) flow: Flow,
     pub(crate) first: &'a [i64],
     pub(crate) second: &'a [i64],
     pub(crate) words: usize,
@@ -86,11 +85,11 @@ pub(crate) fn made_in_flight<'a, A: Allocator>(
         Err(fault) => Err(fault),
         Ok((first, second)) => {
             let _used = blocks.used();
-            let (op, flag) = (filled.op(), filled.flag());
+            let (op, flow) = (filled.op(), filled.flow());
             let words = held_under(turn, track, blocks, op) + first.len() + second.len();
             Ok(Made {
                 op,
-                flag,
+                flow,
                 first,
                 second,
                 words,
@@ -118,12 +117,12 @@ pub(crate) fn execute<C: Class, A: Allocator>(
     ensures limits { track.new.limits ≡ track.old.limits }
     ensures others { ChangesOnlyOf turn.number blocks.old blocks.new }
     ensures same_grant { grant_of blocks.new turn.number ≡ grant_of blocks.old turn.number }
-    ensures goes_on { (made.entry.op ≡ Return → ⊥) → 0 < length track.new.frames }
+    ensures goes_on { (made.entry.flow ≡ Return → ⊥) → 0 < length track.new.frames }
 {
     steps_execute();
     let _used = blocks.used();
     let results = settle::<C, A>(turn, track, blocks, made);
-    track.advance_settled(job, made.op, made.flag, results.as_slice(), made.words);
+    track.advance_settled(job, made.op, made.flow, results.as_slice(), made.words);
 }
 
 /// The words that count as held while an instruction's results are made: not those of the operands under the second

@@ -2,7 +2,7 @@
 
 ghost use Rattle.std.specs.Prelude.{◌≡◌, ◌+◌, ◌<◌, ◌≤◌, ℤ, List, length, map, false, IfSome, IfOk, IfErr, OnOk, OnErr};
 ghost use Rattle.std.specs.Prelude.{Some};
-ghost use Rattle.vcode_base.specs.declared.op.Op.TheVariants.{Return, Segmented as SegmentedOp};
+ghost use Rattle.vcode_base.specs.declared.op.Op.TheVariants.{Segmented as SegmentedOp};
 ghost use Rattle.vcode_base.specs.declared.op.Segmented.TheVariants.{DefaultPermute};
 ghost use Rattle.vcode_base.specs.Kinds.{result_kinds};
 ghost use Rattle.vcode_base.specs.Meaning.{value_fault};
@@ -14,8 +14,6 @@ ghost use Rattle.job_memory.specs.JobBlocks.{held_words};
 ghost use Rattle.job_steps.specs.EventLaws.{IsVerified};
 ghost use Rattle.job_steps.specs.Runs.{state_after};
 ghost use Rattle.job_steps.specs.States.{ruled};
-ghost use Rattle.job_steps.specs.Steps.{flag_of};
-ghost use Rattle.job_steps.specs.Tickets.{question_by};
 ghost use Rattle.job_slots.specs.Executions.{ids_in};
 ghost use Rattle.job_slots.specs.InPlace.{AreComputed, CanCompute, IsPlaceable, KeepsReferences, is_constant};
 ghost use Rattle.job_slots.specs.InPlace.{operands_in, result_count, with_third, words_by};
@@ -32,7 +30,7 @@ use job_memory::laws::{
     blocks_change_only_their_job, changes_join, releases_change_only_their_job,
 };
 use job_steps::laws::steps_can_begin;
-use job_steps::{Job, Track, fill};
+use job_steps::{Flow, Job, Track, fill};
 use refcounts::laws::releases_only_free;
 use segment_ops::overlay;
 use std::alloc::Allocator;
@@ -52,8 +50,6 @@ pub(crate) struct Placement {
     pub(crate) first: usize,
     /// How many words the second result has, or 0 if there is none.
     pub(crate) second: usize,
-    /// Whether the first word of the first operand is other than 0.
-    pub(crate) flag: bool,
 }
 
 /// Such an instruction of the job whose turn it is.
@@ -91,6 +87,13 @@ impl Writer for Computation {
     ) -> Result<(), DataFault> {
         fill(self.op, lent, block, beside)
     }
+}
+
+/// The operands of a `DPERMUTE` that writes over its default.
+#[derive(Clone, Copy)]
+struct Overlaid {
+    default: BlockId,
+    others: [BlockId; 4],
 }
 
 /// The work of a `DPERMUTE` that writes over its default, which goes.
@@ -146,7 +149,7 @@ pub(crate) fn placement_of<A: Allocator>(
     requires verified { IsVerified (ruled turn.rule job.now) }
     requires is_job { IsJob blocks.now turn.number }
     requires ready { (sources : List (List ℤ)) × IsReady (ruled turn.rule job.now) turn.number blocks.now track.now
-        ready.op sources ready.needs × (ready.flag ≡ flag_of (question_by ready.op sources)) }
+        ready.op sources ready.needs }
     requires no_list { is_constant ready.op ≡ false }
     ensures { IfSome result (IsPlaceable (ruled turn.rule job.now) turn.number blocks.now track.now) }
 {
@@ -154,7 +157,7 @@ pub(crate) fn placement_of<A: Allocator>(
     held_is_counted();
     // By its type a memory has no block that no reference names.
     let _used = blocks.used();
-    let Ready { op, flag, needs } = ready;
+    let Ready { op, needs } = ready;
     let first = needs.first as usize;
     let second = needs.second as usize;
     if first < LEAST {
@@ -167,12 +170,7 @@ pub(crate) fn placement_of<A: Allocator>(
     if job.limits().words < held.saturating_add(first).saturating_add(second) {
         return None;
     }
-    Some(Placement {
-        op,
-        first,
-        second,
-        flag,
-    })
+    Some(Placement { op, first, second })
 }
 
 /// How many results an instruction has, by the words of its second one.
@@ -207,20 +205,14 @@ pub(crate) fn execute_in_place<A: Allocator>(
     ensures limits { track.new.limits ≡ track.old.limits }
     ensures others { OnOk result (ChangesOnlyOf due.turn.number blocks.old blocks.new) }
     ensures same_grant { grant_of blocks.new due.turn.number ≡ grant_of blocks.old due.turn.number }
-    ensures goes_on { OnOk result ((due.placement.op ≡ Return → ⊥) → 0 < length track.new.frames) }
+    ensures goes_on { OnOk result (0 < length track.new.frames) }
     ensures unchanged { OnErr result (track.new ≡ track.old) }
     ensures kept { OnErr result (KeepsReferences due.turn.number blocks.old blocks.new) }
     ensures fault { IfErr result (λ fault.
         value_fault due.placement.op (operands_in blocks.old due.placement.op track.old.cells) ≡ Some fault) }
 {
     let Due { turn, placement } = due;
-    let Placement {
-        op,
-        first,
-        second,
-        flag,
-        ..
-    } = placement;
+    let Placement { op, first, second } = placement;
     steps_execute();
     results_have_needed_lengths();
     let _used = blocks.used();
@@ -229,7 +221,7 @@ pub(crate) fn execute_in_place<A: Allocator>(
     match compute(turn, placement, operands, beside, blocks) {
         Ok(results) => {
             let words = words_by(turn.rule, held + first + second, blocks.held(turn.number));
-            track.advance_settled(job, op, flag, results.as_slice(), words);
+            track.advance_settled(job, op, Flow::Next, results.as_slice(), words);
             Ok(())
         }
         Err(fault) => Err(fault),
@@ -268,8 +260,11 @@ fn compute<A: Allocator>(
     if let Op::Segmented(Segmented::DefaultPermute(scalar)) = placement.op {
         if let [elements, indices, default, source, target] = operands {
             if blocks.is_single(*default) {
-                let others = [*elements, *indices, *source, *target];
-                return compute_over(turn, scalar, operands, *default, others, blocks);
+                let overlaid = Overlaid {
+                    default: *default,
+                    others: [*elements, *indices, *source, *target],
+                };
+                return compute_over(turn, scalar, operands, overlaid, blocks);
             }
         }
     }
@@ -281,17 +276,16 @@ fn compute_over<A: Allocator>(
     turn: Turn,
     scalar: Scalar,
     operands: &[BlockId],
-    default: BlockId,
-    others: [BlockId; 4],
+    overlaid: Overlaid,
     blocks: &mut JobMemory<A>,
 ) -> Result<NewBlocks, DataFault>
     requires has_grant { HasGrant blocks.old turn.number }
     requires own { AreOwn turn.number blocks.old operands.now }
-    requires single { (slot_at blocks.old.memory default).count ≡ 1 }
-    requires four { length others ≡ 4 }
-    requires are { operands.now ≡ with_third 0 others default }
+    requires single { (slot_at blocks.old.memory overlaid.default).count ≡ 1 }
+    requires four { length overlaid.others ≡ 4 }
+    requires are { operands.now ≡ with_third 0 overlaid.others overlaid.default }
     requires can { CanCompute (SegmentedOp (DefaultPermute scalar)) (map (words_at blocks.old.memory) operands.now)
-        (length (words_at blocks.old.memory default), 0) }
+        (length (words_at blocks.old.memory overlaid.default), 0) }
     ensures computed { IfOk result (λ results. AreComputed turn.rule turn.number (SegmentedOp (DefaultPermute scalar))
         operands.now (ids_in results) blocks.old blocks.new) }
     ensures fault { IfErr result (λ fault. value_fault (SegmentedOp (DefaultPermute scalar))
@@ -303,6 +297,7 @@ fn compute_over<A: Allocator>(
     releases_change_only_their_job();
     blocks_change_only_their_job();
     changes_join();
+    let Overlaid { default, others } = overlaid;
     let work = Overlay { scalar };
     match blocks.exchange_with(turn.number, operands, default, &others, &work) {
         Ok(()) => Ok(NewBlocks::One([default])),

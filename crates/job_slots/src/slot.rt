@@ -2,7 +2,7 @@
 
 ghost use Rattle.std.specs.Prelude.{◌≡◌, ◌+◌, ◌<◌, ◌≤◌, ◌↔◌, ℕ, [], false, true, length, IsErr, IfOk, OnOk, OnErr};
 ghost use Rattle.std.specs.Prelude.{None, Some, is_some, option_copied};
-ghost use Rattle.vcode_base.specs.declared.op.Op.TheVariants.{Return};
+ghost use Rattle.job_steps.specs.declared.flow.Flow.TheVariants as flows;
 ghost use Rattle.vcode_base.specs.declared.outcome.Outcome.TheVariants.{Fault, Returned};
 ghost use Rattle.vcode_base.specs.declared.op.Op.TheVariants as instruction;
 ghost use Rattle.refcounts.specs.SharedState.{block_count};
@@ -46,7 +46,7 @@ use job_memory::laws::{
 };
 use job_memory::{JobMemory, NotNow};
 use job_steps::laws::{early_ends_end, end_is_own, others_are_ready, reached, steps_can_begin};
-use job_steps::{Desk, Filled, Job, Track, flag};
+use job_steps::{Desk, Filled, Flow, Job, Track};
 use refcounts::laws::{releases_are_counted, releases_keep_blocks};
 use std::alloc::{AllocError, Allocator};
 use std::marker::Model;
@@ -538,18 +538,16 @@ impl<A: Allocator> Slot<A> {
             Err(ending) => return self.end_by_step(turn, job, blocks, ending),
             Ok(needs) => needs,
         };
-        let operands = next.operands.as_slice();
-        let flag = flag(operands);
-        let ready = Ready { op, flag, needs };
-        if let Some(placement) = placement_of(turn, job, &self.track, blocks, ready) {
+        if let Some(placement) = placement_of(turn, job, &self.track, blocks, Ready { op, needs }) {
             let beside = desk.lend(placement.second);
             return self.step_in_place(turn, job, blocks, placement, beside);
         }
+        let operands = next.operands.as_slice();
         match desk.fill(op, operands, (needs.first, needs.second)) {
             Ok((first, second)) => {
                 let made = Made {
                     op,
-                    flag,
+                    flow: Flow::of(op, operands),
                     first,
                     second,
                     words: needs.words,
@@ -582,10 +580,9 @@ impl<A: Allocator> Slot<A> {
         let plain = Plain { op, list };
         match words_without_operands(turn, job, &self.track, blocks, plain) {
             Some(words) => {
-                let flag = flag(&[list]);
                 let made = Made {
                     op,
-                    flag,
+                    flow: Flow::of(op, &[]),
                     first: list,
                     second: &[],
                     words,
@@ -680,7 +677,7 @@ impl<A: Allocator> Slot<A> {
         let line = line_of_next(turn, job, &self.track, blocks);
         let due = Due { turn, placement };
         match execute_in_place(due, job, &mut self.track, blocks, beside) {
-            Ok(()) => self.go_on(placement.op),
+            Ok(()) => true,
             Err(fault) => {
                 self.end(turn, job, blocks, Outcome::Fault(fault, line));
                 false
@@ -821,32 +818,26 @@ impl<A: Allocator> Slot<A> {
     {
         reached();
         end_is_own();
-        let op = made.op;
+        let flow = made.flow;
         execute::<C, A>(turn, job, &mut self.track, blocks, made);
-        self.go_on(op)
+        self.go_on(flow)
     }
 
-    /// After this instruction: true if the job, which is live, goes on, and false if it has returned and its results
-    /// are on its stack. Only a `RET` can leave no call.
+    /// After an instruction of this flow: true if the job, which is live, goes on, and false if it has returned and its
+    /// results are on its stack. Only a return can leave no call.
     #[inline(always)]
-    fn go_on(&mut self, op: Op) -> bool
-        requires { (op ≡ Return → ⊥) → 0 < length self.old.trace.frames }
+    fn go_on(&mut self, flow: Flow) -> bool
+        requires { (flow ≡ flows.Return → ⊥) → 0 < length self.old.trace.frames }
         ensures on { result ≡ true → (0 < length self.old.trace.frames) × (self.new ≡ self.old) }
         ensures ended { result ≡ false → (self.old.trace.frames ≡ [])
             × (self.new ≡ record self.old { status = status.Ended; outcome = None }) }
     {
-        match op {
-            Op::Return if self.track.calls() == 0 => {
+        match flow {
+            Flow::Return if self.track.calls() == 0 => {
                 self.has_returned();
                 false
             }
-            Op::Const(_)
-            | Op::Elementwise(_)
-            | Op::Segmented(_)
-            | Op::If
-            | Op::Move(..)
-            | Op::Call
-            | Op::Return => true,
+            Flow::Next | Flow::Choose(_) | Flow::Call | Flow::Return => true,
         }
     }
 

@@ -44,8 +44,6 @@ pub(crate) struct Needs {
 #[derive(Clone, Copy)]
 pub(crate) struct Ready {
     pub(crate) op: Op,
-    /// Whether the first word of the first operand is other than 0.
-    pub(crate) flag: bool,
     pub(crate) needs: Needs,
 }
 

@@ -17,7 +17,11 @@ use Rattle.vcode_reader.specs.Decode.{then_body}
 use Rattle.vcode_reader.specs.Trees.{Item, Body, Do, Choice, CodeLine, Function, Program}
 use Rattle.vcode_reader.specs.Trees.{IsProperBody, lines_of}
 use Rattle.verifier.specs.Typed.{TypedProgram}
+use Rattle.job_steps.specs.declared.flow.Flow.{Flow}
+use Rattle.job_steps.specs.declared.flow.Flow.TheVariants as flows
+use Rattle.job_steps.specs.declared.flow.Flow.TheVariants.{Next, Choose}
 use Rattle.job_steps.specs.declared.frame.Frame.{Frame}
+use Rattle.job_steps.specs.Flows.{IsFlowOf, choice, flow_of}
 use Rattle.job_steps.specs.Reached.{IsVerifiedBySome}
 use Rattle.job_steps.specs.Frames.{AreActive, IsSettled, StopAt, Stands, StandAll, first_line, lines_from, next_line}
 use Rattle.job_steps.specs.Motions.{stack_after}
@@ -107,8 +111,8 @@ module _ (verified : TypedProgram) (frames : List Frame) (frame : Frame) (top : 
   abbrev pub LineIs : CodeItem Item → Type 0
   LineIs item = (call : Active) → Stands (functions_of verified) frame call → (next_line call).item ≡ item
 
-  return_by : LineIs (code_item.Do instr.Return) → (flag : Bool) → Follow verified flag frames (drop 1 frames)
-  return_by line flag = grind (arith, top_frame, after_return)
+  return_by : LineIs (code_item.Do instr.Return) → (flow : Flow) → Follow verified flow frames (drop 1 frames)
+  return_by line flow = grind (arith, top_frame, after_return)
 
   module _ (next : Frame) (behind : IsBehind (functions_of verified) frame next) where
     past_by : (item : Item) → is_plain (op_of item) ≡ true → (flag : Bool) (rest : Body) (ret : ℕ) (outer : List Active)
@@ -117,9 +121,9 @@ module _ (verified : TypedProgram) (frames : List Frame) (frame : Frame) (top : 
         StandAll (functions_of verified) (next ∷ drop 1 frames) (calls_after verified flag rest ret outer)
     past_by item plain flag rest ret outer e s others = grind (arith, is_plain)
 
-    plain_by : (item : Item) → LineIs (code_item.Do item) → is_plain (op_of item) ≡ true → (flag : Bool) →
-        Follow verified flag frames (next ∷ drop 1 frames)
-    plain_by item line plain flag = grind (arith, top_frame, past_by)
+    plain_by : (item : Item) → LineIs (code_item.Do item) → is_plain (op_of item) ≡ true → (flow : Flow) →
+        Follow verified flow frames (next ∷ drop 1 frames)
+    plain_by item line plain flow = grind (arith, top_frame, past_by)
 
     call_by : (name : List ℕ) (c : Callee) (inner : Frame) → callee_named verified name ≡ Some c →
         Stands (functions_of verified) inner (first_call c) → (flag : Bool) (rest : Body) (ret : ℕ)
@@ -136,7 +140,7 @@ module _ (verified : TypedProgram) (frames : List Frame) (frame : Frame) (top : 
         (calls_after verified flag rest ret outer)
     part_by rest ret outer e s others = grind arith
 
-    if_by : LineIs code_item.If → Follow verified flag frames (part ∷ drop 1 frames)
+    if_by : LineIs code_item.If → Follow verified (Choose flag) frames (part ∷ drop 1 frames)
     if_by line = grind (arith, top_frame, part_by)
 
   -- a CALL that can be followed
@@ -160,19 +164,19 @@ module _ (verified : TypedProgram) (frames : List Frame) (frame : Frame) (top : 
     do_is other call s = next_is call s ∙ do_line can.call.rest can.call.ret (λ e. other (sym can.op_is ∙ e))
 
     pub follow_if : o ≡ op.If → (flag : Bool) (part : Frame) → IsChosen (functions_of verified) flag frame part →
-        Follow verified flag frames (part ∷ drop 1 frames)
+        Follow verified (Choose flag) frames (part ∷ drop 1 frames)
     follow_if is flag part chosen =
         if_by flag part chosen (λ call s. next_is call s ∙ if_line can.call.rest can.call.ret can.proper
         (can.op_is ∙ is))
 
-    pub follow_return : o ≡ op.Return → (flag : Bool) → Follow verified flag frames (drop 1 frames)
-    follow_return is flag = grind (arith, return_by, do_is)
+    pub follow_return : o ≡ op.Return → (flow : Flow) → Follow verified flow frames (drop 1 frames)
+    follow_return is flow = grind (arith, return_by, do_is)
 
-    pub follow_plain : is_plain o ≡ true → (flag : Bool) (next : Frame) → IsBehind (functions_of verified) frame next →
-        Follow verified flag frames (next ∷ drop 1 frames)
-    follow_plain plain flag next behind =
+    pub follow_plain : is_plain o ≡ true → (flow : Flow) (next : Frame) → IsBehind (functions_of verified) frame next →
+        Follow verified flow frames (next ∷ drop 1 frames)
+    follow_plain plain flow next behind =
         let other : o ≡ op.If → ⊥ = λ e. let h : true ≡ false = sym plain ∙ ap is_plain e in cc in
-        plain_by next behind (next_item can.call).item (do_is other) (ap is_plain can.op_is ∙ plain) flag
+        plain_by next behind (next_item can.call).item (do_is other) (ap is_plain can.op_is ∙ plain) flow
 
     call_line : (is : o ≡ op.Call) → LineIs (code_item.Do (instr.Call
         (call_named (next_item can.call).item (can.op_is ∙ is)).0))
@@ -190,44 +194,61 @@ module _ (verified : TypedProgram) (frames : List Frame) (frame : Frame) (top : 
           few = called.2;
         }
 
-    pub follow_call : o ≡ op.Call → (flag : Bool) (next inner : Frame) → IsBehind (functions_of verified) frame next →
+    pub follow_call : o ≡ op.Call → (flow : Flow) (next inner : Frame) → IsBehind (functions_of verified) frame next →
         ((name : List ℕ) (callee : Callee) → IsCallOf verified frame name callee →
         Stands (functions_of verified) inner (first_call callee)) →
-        Follow verified flag frames (inner ∷ next ∷ drop 1 frames)
-    follow_call is flag next inner behind first =
+        Follow verified flow frames (inner ∷ next ∷ drop 1 frames)
+    follow_call is flow next inner behind first =
         λ call outer s. let t = top_frame (functions_of verified) frames frame call outer top s in
         let c = call_is is in
-        call_by next behind c.name c.callee inner c.is.is (first c.name c.callee c.is) flag call.rest call.ret outer
-        (c.line call t.inner) t.inner t.others
+        call_by next behind c.name c.callee inner c.is.is (first c.name c.callee c.is) (choice flow) call.rest call.ret
+        outer (c.line call t.inner) t.inner t.others
+
+-- the instruction whose flow is this
+module _ (o : Op) (flow : Flow) (fits : IsFlowOf o flow) where
+  is_if : (flag : Bool) → flow ≡ Choose flag → o ≡ op.If
+  is_if flag e = grind arith
+
+  is_call_by : flow ≡ flows.Call → o ≡ op.Call
+  is_call_by e = grind arith
+
+  is_return_by : flow ≡ flows.Return → o ≡ op.Return
+  is_return_by e = grind arith
+
+  is_plain_by : flow ≡ Next → is_plain o ≡ true
+  is_plain_by e = grind arith
 
 -- the frames that `follow` leaves, over functions that are those of the program
 module _ (verified : TypedProgram) (fs : List Function) (same : fs ≡ functions_of verified) (old new : PileState Frame)
-    (frame : Frame) (top : slice_get old.entries 0 ≡ Some frame) (o : Op)
-    (can : CanFollow verified o old.entries old.room) (settled : IsSettled (functions_of verified) old.entries)
-    (flag : Bool) where
-  pub left_if : o ≡ op.If → (part : Frame) → IsChosen fs flag frame part →
-      new ≡ record old { entries = part ∷ drop 1 old.entries } → Follow verified flag old.entries new.entries
-  left_if is part chosen e =
-      rw e (follow_if verified old.entries frame top o old.room can settled is flag part
-      (subst (λ gs. IsChosen gs flag frame part) same chosen))
+    (frame : Frame) (top : slice_get old.entries 0 ≡ Some frame) (flow : Flow)
+    (can : (o : Op) × CanFollow verified o old.entries old.room × IsFlowOf o flow)
+    (settled : IsSettled (functions_of verified) old.entries) where
+  pub left_if : (flag : Bool) → flow ≡ Choose flag → (part : Frame) → IsChosen fs flag frame part →
+      new ≡ record old { entries = part ∷ drop 1 old.entries } → Follow verified flow old.entries new.entries
+  left_if flag is part chosen e =
+      rw (e, is) (follow_if verified old.entries frame top can.0 old.room can.1 settled (is_if can.0 flow can.2 flag is)
+      flag part (subst (λ gs. IsChosen gs flag frame part) same chosen))
 
-  pub left_return : o ≡ op.Return → new ≡ record old { entries = drop 1 old.entries } →
-      Follow verified flag old.entries new.entries
-  left_return is e = rw e (follow_return verified old.entries frame top o old.room can settled is flag)
+  pub left_return : flow ≡ flows.Return → new ≡ record old { entries = drop 1 old.entries } →
+      Follow verified flow old.entries new.entries
+  left_return is e =
+      rw e (follow_return verified old.entries frame top can.0 old.room can.1 settled (is_return_by can.0 flow can.2 is)
+      flow)
 
-  pub left_call : o ≡ op.Call → (next inner : Frame) → IsBehind fs frame next → ((name : List ℕ) (callee : Callee) →
-      IsCallOf verified frame name callee → Stands (functions_of verified) inner (first_call callee)) →
+  pub left_call : flow ≡ flows.Call → (next inner : Frame) → IsBehind fs frame next → ((name : List ℕ)
+      (callee : Callee) → IsCallOf verified frame name callee →
+      Stands (functions_of verified) inner (first_call callee)) →
       (between : PileState Frame) → between ≡ record old { entries = next ∷ drop 1 old.entries } →
-      new ≡ record between { entries = inner ∷ between.entries } → Follow verified flag old.entries new.entries
+      new ≡ record between { entries = inner ∷ between.entries } → Follow verified flow old.entries new.entries
   left_call is next inner behind first between e f =
-      rw (f, e) (follow_call verified old.entries frame top o old.room can settled is flag next inner
-      (subst (λ gs. IsBehind gs frame next) same behind) first)
+      rw (f, e) (follow_call verified old.entries frame top can.0 old.room can.1 settled
+      (is_call_by can.0 flow can.2 is) flow next inner (subst (λ gs. IsBehind gs frame next) same behind) first)
 
-  pub left_plain : is_plain o ≡ true → (next : Frame) → IsBehind fs frame next →
-      new ≡ record old { entries = next ∷ drop 1 old.entries } → Follow verified flag old.entries new.entries
-  left_plain plain next behind e =
-      rw e (follow_plain verified old.entries frame top o old.room can settled plain flag next
-      (subst (λ gs. IsBehind gs frame next) same behind))
+  pub left_next : flow ≡ Next → (next : Frame) → IsBehind fs frame next →
+      new ≡ record old { entries = next ∷ drop 1 old.entries } → Follow verified flow old.entries new.entries
+  left_next is next behind e =
+      rw e (follow_plain verified old.entries frame top can.0 old.room can.1 settled (is_plain_by can.0 flow can.2 is)
+      flow next (subst (λ gs. IsBehind gs frame next) same behind))
 
 -- ---- the first frame of a function
 
@@ -362,10 +383,10 @@ no_frames : (fs : List Function) (frames : List Frame) → StandAll fs frames []
 no_frames fs [] s = refl
 no_frames fs (frame ∷ frames) s = absurd s
 
-module _ {C : Type 0} (task : Task) (t u : TrackState C) (s : State) (item : Item) (flag : Bool) (results : List C)
+module _ {C : Type 0} (task : Task) (t u : TrackState C) (s : State) (item : Item) (flow : Flow) (results : List C)
     (at : IsAt task t s) (deep : IsDeep (op_of item) (length s.stack))
     (given : length results ≡ length (result_kinds (op_of item)))
-    (advanced : Advances task.verified (op_of item) flag results (words_at task.rule item s) t u) where
+    (advanced : Advances task.verified (op_of item) flow results (words_at task.rule item s) t u) where
   peak_after : u.peak ≡ max s.peak (words_at task.rule item s)
   peak_after = advanced.peak ∙ ap (λ n. max n (words_at task.rule item s)) at.peak
 
@@ -380,10 +401,17 @@ module _ {C : Type 0} (task : Task) (t u : TrackState C) (s : State) (item : Ite
       IsWhere task u (progress_past task.rule item s calls)
   where_after calls stands = grind (arith, no_frames, count_after, peak_after, depth_then, length-results)
 
+-- an IF goes on at the part that its flag chooses, and another instruction at the same calls whatever the flag
+calls_by_flow : (verified : TypedProgram) (stack : List StackEntry) (rest : Body) (ret : ℕ) (outer : List Active) →
+    calls_after verified (choice (flow_of (question_of (first_item rest ret).item stack))) rest ret outer
+    ≡ calls_after verified (flag_of (question_of (first_item rest ret).item stack)) rest ret outer
+calls_by_flow verified stack rest ret outer = grind arith
+
 pub each_track_follows : (C : Type 0) → EachTrackFollows C
 each_track_follows C task t u s call outer results at calls deep given advanced =
     let item = (next_item call).item in
-    let flag = flag_of (question_of item s.stack) in
-    where_after task t u s item flag results at deep given advanced
-    (calls_after task.verified flag call.rest call.ret outer)
-    (advanced.frames call outer (subst (StandAll (functions_of task.verified) t.frames) calls at.frames))
+    where_after task t u s item (flow_of (question_of item s.stack)) results at deep given advanced
+    (calls_after task.verified (flag_of (question_of item s.stack)) call.rest call.ret outer)
+    (subst (StandAll (functions_of task.verified) u.frames)
+    (calls_by_flow task.verified s.stack call.rest call.ret outer)
+    (advanced.frames call outer (subst (StandAll (functions_of task.verified) t.frames) calls at.frames)))

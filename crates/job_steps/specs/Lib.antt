@@ -1,6 +1,7 @@
 pub mod Buffers
 pub mod EventLaws
 pub mod Events
+pub mod Flows
 pub mod Frames
 pub mod Jobs
 pub mod LeastLimits

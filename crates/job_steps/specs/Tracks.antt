@@ -1,5 +1,5 @@
 -- The place of a job in its run, with what names its vectors in place of the vectors.
-use Rattle.std.specs.Prelude.{◌≡◌, ℕ, ◌+◌, ◌<◌, ◌≤◌, max, Bool, List, [], ◌∷◌, length, Some}
+use Rattle.std.specs.Prelude.{◌≡◌, ℕ, ◌+◌, ◌<◌, ◌≤◌, max, List, [], ◌∷◌, length, Some}
 use Rattle.vcode_base.specs.declared.instr.Instr.TheVariants.{Call}
 use Rattle.vcode_base.specs.declared.limits.Limits.{Limits}
 use Rattle.vcode_base.specs.declared.op.Op.{Op}
@@ -9,7 +9,9 @@ use Rattle.vcode_base.specs.declared.op.Op.TheVariants.{Move}
 use Rattle.vcode_reader.specs.declared.line.CodeItem.TheVariants as code_item
 use Rattle.vcode_reader.specs.Trees.{Item, Function, IsProperBody}
 use Rattle.verifier.specs.Typed.{TypedProgram}
+use Rattle.job_steps.specs.declared.flow.Flow.{Flow}
 use Rattle.job_steps.specs.declared.frame.Frame.{Frame}
+use Rattle.job_steps.specs.Flows.{choice, flow_of}
 use Rattle.job_steps.specs.Frames.{Stands, StandAll, next_line}
 use Rattle.job_steps.specs.Motions.{operand_count, stack_after}
 use Rattle.job_steps.specs.States.{Task, Active, State, Callee, callee_named, first_state}
@@ -74,18 +76,18 @@ pub record CanFollow (verified : TypedProgram) (op : Op) (frames : List Frame) (
   pub proper : IsProperBody call.rest
   pub called : CanCall verified (next_item call).item (length frames) room
 
--- the frames are at the calls after the next instruction, whichever calls they were at
-abbrev pub Follow : TypedProgram → Bool → List Frame → List Frame → Type 0
-Follow verified flag old new =
+-- the frames are at the calls after the next instruction, which has this flow, whichever calls they were at
+abbrev pub Follow : TypedProgram → Flow → List Frame → List Frame → Type 0
+Follow verified flow old new =
     (call : Active) (outer : List Active) → StandAll (functions_of verified) old (call ∷ outer) →
-    StandAll (functions_of verified) new (calls_after verified flag call.rest call.ret outer)
+    StandAll (functions_of verified) new (calls_after verified (choice flow) call.rest call.ret outer)
 
 -- the instruction is executed, with these results and these words held and needed
-pub record Advances {C : Type 0} (verified : TypedProgram) (op : Op) (flag : Bool) (results : List C) (words : ℕ)
+pub record Advances {C : Type 0} (verified : TypedProgram) (op : Op) (flow : Flow) (results : List C) (words : ℕ)
     (old new : TrackState C) : Type 0 where
   pub limits : new.limits ≡ old.limits
   pub cells : new.cells ≡ stack_after op results old.cells
-  pub frames : Follow verified flag old.frames new.frames
+  pub frames : Follow verified flow old.frames new.frames
   pub executed : new.executed ≡ old.executed + 1
   pub peak : new.peak ≡ max old.peak words
 
@@ -117,7 +119,7 @@ EachTrackFollows C =
     IsAt task t s → s.calls ≡ call ∷ outer →
     IsDeep (op_of (next_item call).item) (length s.stack) →
     length results ≡ length (result_kinds (op_of (next_item call).item)) →
-    Advances task.verified (op_of (next_item call).item) (flag_of (question_of (next_item call).item s.stack)) results
+    Advances task.verified (op_of (next_item call).item) (flow_of (question_of (next_item call).item s.stack)) results
     (words_at task.rule (next_item call).item s) t u →
     IsWhere task u (progress_past task.rule (next_item call).item s
     (calls_after task.verified (flag_of (question_of (next_item call).item s.stack)) call.rest call.ret outer))

@@ -1,16 +1,16 @@
 //! A step with its results.
 
-ghost use Rattle.std.specs.Prelude.{◌≡◌, ◌+◌, ◌<◌, ◌≤◌, ◌↔◌, IsTrue, IfOk, length, pos, slice_index_or};
+ghost use Rattle.std.specs.Prelude.{◌≡◌, ◌+◌, ◌<◌, ◌≤◌, ◌↔◌, IsTrue, IfOk, length};
 ghost use Rattle.std.specs.Prelude.{MatchResult, Some, vec_len, vec_capacity};
 ghost use Rattle.vcode_base.specs.declared.op.Op.{Op};
-ghost use Rattle.vcode_base.specs.Elements.{is_set};
 ghost use Rattle.vcode_base.specs.Meaning.{need, operand, value_fault};
 ghost use Rattle.vcode_base.specs.Operands.{contents};
 ghost use Rattle.job_steps.specs.Questions.{Question};
-ghost use Rattle.job_steps.specs.Steps.{flag_of};
+ghost use Rattle.job_steps.specs.Flows.{flow_of};
 ghost use Rattle.job_steps.specs.Tickets.{CanAnswer, IsAnswer, AreResults, question_by};
 
 use crate::desk::Desk;
+use crate::flow::Flow;
 use crate::operations::{fill, need};
 use crate::step::{Buffers, Step};
 use crate::ticket::Ticket;
@@ -90,15 +90,13 @@ impl<A: Allocator> Filled<A> {
         self.computed.buffers.operands.holds(operands)
     }
 
-    /// The choice of an `IF`: whether its flag is T. Of another instruction it is whether the first
-    /// word of its first operand is other than 0.
-    pub fn flag(&self) -> bool
-        ensures { result ≡ flag_of self.now.question }
+    /// How the calls of the job go on after it.
+    pub fn flow(&self) -> Flow
+        ensures { result ≡ flow_of self.now.question }
     {
-        if self.operand_count() == 0 {
-            return false;
-        }
-        is_set(self.operand(0))
+        let operands = &self.computed.buffers.operands;
+        let lists = operands.lists();
+        Flow::of(self.computed.op, &lists[..operands.count()])
     }
 
     /// The words of the first and of the second result, empty if there is none.
@@ -169,29 +167,6 @@ pub(crate) fn results_in(
             let (second, _) = rest.split_at(second_len);
             Ok((first, second))
         }
-    }
-}
-
-/// The choice of an `IF` of these operands: whether its flag is T. Of another instruction it is whether the first word
-/// of its first operand is other than 0.
-#[inline(always)]
-pub fn flag(ops: &[&[i64]]) -> bool
-    ensures { (op : Op) → result ≡ flag_of (question_by op (contents ops.now)) }
-{
-    match ops.first() {
-        Some(words) => is_set(words),
-        None => false,
-    }
-}
-
-/// Whether the first of these words is other than 0, if there is one.
-#[inline(always)]
-fn is_set(words: &[i64]) -> bool
-    ensures { result ≡ is_set (slice_index_or words.now 0 (pos 0)) }
-{
-    match words {
-        [first, ..] => *first != 0,
-        [] => false,
     }
 }
 

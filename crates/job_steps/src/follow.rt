@@ -1,16 +1,18 @@
 //! The frames of the active calls after an instruction.
 
 ghost use Rattle.std.specs.Prelude.{◌≡◌, ◌<◌, ℕ, List, [], ◌∷◌, length, IfOk};
-ghost use Rattle.vcode_base.specs.declared.op.Op.TheVariants.{Return};
+ghost use Rattle.vcode_base.specs.declared.op.Op.{Op};
+ghost use Rattle.job_steps.specs.declared.flow.Flow.TheVariants.{Return};
+ghost use Rattle.job_steps.specs.Flows.{IsFlowOf};
 ghost use Rattle.job_steps.specs.Frames.{AreActive, IsSettled, Stands, StandAll, StopAt, lines_from};
 ghost use Rattle.job_steps.specs.States.{Active, Callee, first_state};
 ghost use Rattle.job_steps.specs.Tracks.{CanFollow, Follow, IsCallOf, first_call, functions_of};
 
 use crate::calls::Calls;
+use crate::flow::Flow;
 use crate::frame::Frame;
 use crate::job::Job;
 use std::alloc::{AllocError, Allocator};
-use vcode_base::Op;
 use vcode_reader::Program;
 
 /// The frame of the first line of `MAIN`, with room for as many as the job may have calls.
@@ -45,30 +47,27 @@ pub(crate) fn settle<A: Allocator>(frames: &mut Calls<A>, program: &Program<A>)
     }
 }
 
-/// Follows the next instruction of the innermost call, which is at its line, and is this one without its list or name.
-/// The flag is that of an `IF`, and of no account elsewhere.
+/// Follows the next instruction of the innermost call, which is at its line and has this flow.
 #[tactic(auto, using(crate::proofs::Following::of_follow))]
 #[inline(always)]
-pub(crate) fn follow<A: Allocator>(frames: &mut Calls<A>, job: &Job<A>, op: Op, flag: bool)
-    requires can { CanFollow job.now.verified op frames.old.entries frames.old.room }
+pub(crate) fn follow<A: Allocator>(frames: &mut Calls<A>, job: &Job<A>, flow: Flow)
+    requires can { (op : Op) × CanFollow job.now.verified op frames.old.entries frames.old.room × IsFlowOf op flow }
     requires settled { IsSettled (functions_of job.now.verified) frames.old.entries }
     ensures room { frames.new.room ≡ frames.old.room }
-    ensures frames { Follow job.now.verified flag frames.old.entries frames.new.entries }
-    ensures goes_on { (op ≡ Return → ⊥) → 0 < length frames.new.entries }
+    ensures frames { Follow job.now.verified flow frames.old.entries frames.new.entries }
+    ensures goes_on { (flow ≡ Return → ⊥) → 0 < length frames.new.entries }
 {
     let program = job.verified().program();
     let frame = frames.innermost();
-    match op {
-        Op::If => frames.go_on_at(frame.chosen(program, flag)),
-        Op::Return => frames.leave(),
-        Op::Call => {
+    match flow {
+        Flow::Next => frames.go_on_at(frame.next(program)),
+        Flow::Choose(flag) => frames.go_on_at(frame.chosen(program, flag)),
+        Flow::Call => {
             let callee = called(frame, job);
             frames.go_on_at(frame.next(program));
             frames.enter(callee);
         }
-        Op::Const(_) | Op::Elementwise(_) | Op::Segmented(_) | Op::Move(..) => {
-            frames.go_on_at(frame.next(program))
-        }
+        Flow::Return => frames.leave(),
     }
 }
 

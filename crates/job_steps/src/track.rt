@@ -2,7 +2,8 @@
 
 ghost use Rattle.std.specs.Prelude.{◌≡◌, ◌+◌, ◌<◌, ◌≤◌, List, [], ◌∷◌, length, max, reverse, IfOk};
 ghost use Rattle.vcode_base.specs.declared.limits.TheConstants.{MOST_BUDGET};
-ghost use Rattle.vcode_base.specs.declared.op.Op.TheVariants.{Return};
+ghost use Rattle.job_steps.specs.declared.flow.Flow.TheVariants.{Return};
+ghost use Rattle.job_steps.specs.Flows.{IsFlowOf};
 ghost use Rattle.vcode_base.specs.Kinds.{result_kinds};
 ghost use Rattle.job_steps.specs.Frames.{AreActive, IsSettled, StandAll, instruction_of, next_line};
 ghost use Rattle.job_steps.specs.Motions.{stack_after, depth_after};
@@ -13,6 +14,7 @@ ghost use Rattle.job_steps.specs.Tracks.{IsFirst, IsDeep, CanFollow, Advances, f
 use crate::bounded_stack::BoundedStack;
 use crate::calls::{Calls, Frames};
 use crate::fault::memory_fault;
+use crate::flow::Flow;
 use crate::follow::{first_frames, follow, settle};
 use crate::job::Job;
 use std::alloc::{AllocError, Allocator};
@@ -170,39 +172,40 @@ impl<C: Copy, A: Allocator> Track<C, A> {
         memory_fault(&self.limits, op, words, self.depth(), self.calls())
     }
 
-    /// Executes the next instruction, which is this one without its list or name. `results` name its results
-    /// from the bottom up, `words` is the number of words that were held and needed, and `flag` is that of
-    /// an `IF`, and of no account elsewhere.
+    /// Executes the next instruction, which is this one without its list or name. `flow` says how the calls go on,
+    /// `results` name its results from the bottom up, and `words` is the number of words that were held and needed.
     ///
     /// The entries that it takes have to be there, no limit may be passed, and a function that it calls has
     /// to be there. At `RET` of the only active call none is active afterwards, and the entries stay.
     #[tactic(auto, using(crate::proofs::Following::same_length))]
-    pub fn advance(&mut self, job: &Job<A>, op: Op, flag: bool, results: &[C], words: usize)
+    pub fn advance(&mut self, job: &Job<A>, op: Op, flow: Flow, results: &[C], words: usize)
         requires budget { self.old.executed < self.old.limits.budget }
         requires deep { IsDeep op (length self.old.cells) }
         requires given { length results.now ≡ length (result_kinds op) }
         requires cells { depth_after op (length self.old.cells) ≤ self.old.limits.cells }
         requires calls { CanFollow job.now.verified op self.old.frames self.old.limits.calls }
-        ensures { Advances job.now.verified op flag results.now words self.old self.new }
+        requires flow { IsFlowOf op flow }
+        ensures { Advances job.now.verified op flow results.now words self.old self.new }
     {
         self.settle(job.verified().program());
-        self.advance_settled(job, op, flag, results, words);
+        self.advance_settled(job, op, flow, results, words);
     }
 
     /// The same of a track that is settled, which takes less time.
     #[inline(always)]
-    pub fn advance_settled(&mut self, job: &Job<A>, op: Op, flag: bool, results: &[C], words: usize)
+    pub fn advance_settled(&mut self, job: &Job<A>, op: Op, flow: Flow, results: &[C], words: usize)
         requires budget { self.old.executed < self.old.limits.budget }
         requires deep { IsDeep op (length self.old.cells) }
         requires given { length results.now ≡ length (result_kinds op) }
         requires cells { depth_after op (length self.old.cells) ≤ self.old.limits.cells }
         requires calls { CanFollow job.now.verified op self.old.frames self.old.limits.calls }
+        requires flow { IsFlowOf op flow }
         requires settled { IsSettled (functions_of job.now.verified) self.old.frames }
-        ensures advances { Advances job.now.verified op flag results.now words self.old self.new }
-        ensures goes_on { (op ≡ Return → ⊥) → 0 < length self.new.frames }
+        ensures advances { Advances job.now.verified op flow results.now words self.old self.new }
+        ensures goes_on { (flow ≡ Return → ⊥) → 0 < length self.new.frames }
     {
         replace(&mut self.cells, op, results);
-        follow(&mut self.frames, job, op, flag);
+        follow(&mut self.frames, job, flow);
         count(&mut self.executed, &mut self.peak, words);
     }
 

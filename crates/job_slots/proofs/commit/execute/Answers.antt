@@ -10,7 +10,7 @@ use Rattle.job_slots.proofs.commit.execute.Goals.{After-used-used, After-advance
 
 -- what is known of the instruction
 can : (g : Over) (c : After-used-used g) → CanExecute c.args.turn.number c.args.blocks.now
-    (ruled c.args.turn.rule c.args.job.now) c.args.track.now c.args.made.op c.args.made.flag c.args.made.first.now
+    (ruled c.args.turn.rule c.args.job.now) c.args.track.now c.args.made.op c.args.made.flow c.args.made.first.now
     c.args.made.second.now
 can g c =
     c.steps_execute.ensures _ _ _ _ _ _ _ _ c.requires.flying c.requires.verified c.used-used.ensures.tidy
@@ -30,7 +30,9 @@ settle-results-requires-clause-can g c =
 
 pub advance_settled-requires : goal.advance_settled-requires
 advance_settled-requires g c =
-    let past = (can g (goal.at.advance_settled-requires g c).After-used-used).goes_past in
+    let known = can g (goal.at.advance_settled-requires g c).After-used-used in
+    let past = known.goes_past in
+    let flows = known.flows in
     let given = c.settle-results.ensures.settled.1.given in
     grind arith
 

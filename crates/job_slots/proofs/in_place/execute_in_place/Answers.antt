@@ -5,13 +5,14 @@ use Rattle.vcode_base.specs.declared.rule.Rule.TheVariants.{Second}
 use Rattle.vcode_base.specs.Meaning.{value_fault}
 use Rattle.refcounts.specs.Making.{words_at}
 use Rattle.job_memory.specs.JobBlocks.{held_words, words_of}
+use Rattle.job_steps.specs.declared.flow.Flow.TheVariants.{Next}
 use Rattle.job_steps.specs.States.{ruled}
 use Rattle.job_steps.specs.Tickets.{AreResults, question_by}
 use Rattle.job_slots.specs.Commits.{held_under, taken_ids}
 use Rattle.job_slots.specs.Executions.{CanExecute, HasSettled, IsExecuted, ids_in}
 use Rattle.job_slots.specs.InPlace.{operands_in, result_count}
 use Rattle.job_slots.proofs.Executed.{executed_past}
-use Rattle.job_slots.proofs.InPlace.{computed_long}
+use Rattle.job_slots.proofs.InPlace.{computed_long, goes_next}
 use Rattle.job_slots.proofs.Operands.{few_operands}
 use Rattle.job_slots.proofs.in_place.execute_in_place.Given.{Over}
 use Rattle.job_slots.proofs.in_place.execute_in_place.Goals as goal
@@ -47,7 +48,7 @@ results : (g : Over) (c : In-Ok g) → AreResults
 results g c = rw (operands_are g (goal.at.In-Ok g c).After-top-operands) at c.in-Ok.ensures.computed.results
 
 can : (g : Over) (c : In-Ok g) → CanExecute c.args.due.turn.number c.args.blocks.now
-    (ruled c.args.due.turn.rule c.args.job.now) c.args.track.now c.args.due.placement.op c.args.due.placement.flag
+    (ruled c.args.due.turn.rule c.args.job.now) c.args.track.now c.args.due.placement.op Next
     c.in-Ok.ensures.computed.first c.in-Ok.ensures.computed.second
 can g c =
     let p = c.args.due.placement in
@@ -55,7 +56,7 @@ can g c =
       question = question_by p.op (operands_in c.args.blocks.now p.op c.args.track.now.cells);
       asked = c.requires.placeable.question;
       op_is = refl;
-      flag_is = c.requires.placeable.flag_is;
+      flow_is = goes_next p.op p.second c.requires.placeable.count _;
       results = results g c;
     })
 
@@ -74,6 +75,7 @@ pub advance_settled-requires : goal.advance_settled-requires
 advance_settled-requires g c =
     let at = (goal.at.advance_settled-requires g c).In-Ok in
     let past = (can g at).goes_past in
+    let flows = (can g at).flows in
     let given = (settled g at).given in
     grind arith
 

@@ -10,6 +10,6 @@ returns g c =
     let is = c.requires.ready.1 in
     is_placeable c.steps_can_begin.ensures c.held_is_counted.ensures c.args.turn.number c.args.blocks.now
     (ruled c.args.turn.rule c.args.job.now) c.args.track.now c.requires.running c.requires.verified ready.op _ is.next
-    c.requires.no_list c.used-used.ensures.tidy ready.needs.first ready.needs.second ready.flag is.kinds
+    c.requires.no_list c.used-used.ensures.tidy ready.needs.first ready.needs.second is.kinds
     (is.can_ask c.args.job.now.limits.words (omega arith)).can.shaped (omega (arith, ap length c.result_kinds.ensures))
-    (sym is.lengths) c.requires.ready.2 (omega (arith, ap (λ (l : Limits). l.words) c.limits.ensures))
+    (sym is.lengths) (omega (arith, ap (λ (l : Limits). l.words) c.limits.ensures))

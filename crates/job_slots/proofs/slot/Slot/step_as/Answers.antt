@@ -4,7 +4,7 @@ use Rattle.vcode_base.specs.Meaning.{value_fault}
 use Rattle.vcode_base.specs.Operands.{contents}
 use Rattle.job_memory.specs.JobBlocks.{own_slots}
 use Rattle.job_steps.specs.States.{ruled}
-use Rattle.job_steps.specs.Steps.{flag_of}
+use Rattle.job_steps.specs.Flows.{flow_of}
 use Rattle.job_steps.specs.Tickets.{AreResults, question_by}
 use Rattle.job_slots.specs.InPlace.{is_constant}
 use Rattle.job_slots.specs.Needs.{IsReady}
@@ -14,7 +14,7 @@ use Rattle.job_slots.proofs.Started.{runs_inside}
 use Rattle.job_slots.proofs.OneGo.{ends_early, ends_by_fault}
 use Rattle.job_slots.proofs.slot.Slot.step_as.Given.{Over}
 use Rattle.job_slots.proofs.slot.Slot.step_as.Goals as goal
-use Rattle.job_slots.proofs.slot.Slot.step_as.Goals.{After-flag-flag, After-next_at-next, In-Ok}
+use Rattle.job_slots.proofs.slot.Slot.step_as.Goals.{After-of, After-next_at-next, In-Ok}
 
 running : (g : Over) (c : After-next_at-next g) →
     IsRunningSlot (own_slots c.args.turn.number c.args.blocks.now) (ruled c.args.turn.rule c.args.job.now)
@@ -45,15 +45,15 @@ ready : (g : Over) (c : In-Ok g) → IsReady (ruled c.args.turn.rule c.args.job.
     c.self.inside.track c.op-op.result (sources g c) c.in-Ok.needs
 ready g c = rw c.next_at-next.ensures.op at c.in-Ok.ensures
 
-flag_is : (g : Over) (c : After-flag-flag g) →
-    c.flag-flag.result ≡ flag_of (question_by c.op-op.result
+flow_is : (g : Over) (c : After-of g) →
+    c.of.result ≡ flow_of (question_by c.op-op.result
     (contents (take c.next_at-next.result.operands.count c.next_at-next.result.operands.lists)))
-flag_is g c = rw (← c.as_slice-operands.ensures) (c.flag-flag.ensures c.op-op.result)
+flow_is g c = rw (← c.as_slice-operands.ensures) c.of.ensures
 
 pub placement_of-requires-clause-ready : goal.placement_of-requires-clause-ready
 placement_of-requires-clause-ready g c =
     let at = goal.at.placement_of-requires-clause-ready g c in
-    (sources g at.In-Ok, ready g at.In-Ok, flag_is g at.After-flag-flag)
+    (sources g at.In-Ok, ready g at.In-Ok)
 
 pub fill-requires-clause-can : goal.fill-requires-clause-can
 fill-requires-clause-can g c =
@@ -66,7 +66,7 @@ carry_out-requires-clause-made g c =
     let results : AreResults (question_by c.op-op.result (sources g at.In-Ok)) c.in-Ok-fill.first.now
     c.in-Ok-fill.second.now = rw (← c.as_slice-operands.ensures) c.in-Ok-fill.ensures.answer in
     let made = is_made c.results_have_needed_lengths.ensures _ _ _ _ _ _ _ (ready g at.In-Ok) _ _ _ results
-    (flag_is g at.After-flag-flag) in
+    (flow_is g at.After-of) in
     rw (← c.self.view_is) (record { answered = made.0; counted = made.1 })
 
 -- ---- the job ends by the values of its operands

@@ -1,5 +1,5 @@
 -- A step that computes in place of its operands is the next step of the job, or a value fault ends the job.
-use Rattle.std.proofs.Common.{◌≡◌, ◌∙◌, sym, ap, subst}
+use Rattle.std.proofs.Common.{◌≡◌, ◌∙◌, refl, sym, ap, subst}
 use Rattle.vcode_base.specs.declared.outcome.Outcome.TheVariants.{Fault}
 use Rattle.job_steps.specs.States.{ruled}
 use Rattle.job_steps.specs.Tickets.{question_by}
@@ -31,7 +31,8 @@ returns-in-Ok g c =
     (ap (λ (s : SlotState). s.status) c.self.view_is ∙ c.requires.can.live)
     (executed_inside _ _ c.args.self.now c.self.inside.track _ _ _ (ap (λ (s : SlotState). s.trace) c.self.view_is)
     c.in-Ok.ensures.after c.execute_in_place.ensures.limits c.in-Ok.ensures.others
-    c.execute_in_place.ensures.same_grant) _ _ (record { still = c.go_on.ensures.on; ended = c.go_on.ensures.ended })
+    c.execute_in_place.ensures.same_grant) _ _
+    (record { still = λ on. (c.in-Ok.ensures.goes_on, refl); ended = λ over. cc })
 
 -- ---- the job ends by the values of its operands
 

@@ -11,6 +11,6 @@ carry_out-requires-clause-made g c =
       answered =
           rw c.op-op.ensures (answered c.steps_can_begin.ensures _ c.args.blocks.now _ _
           (runs _ _ _ _ can.shows can.live) can.shows.verified among c.args.list.now c.requires.next c.requires.list
-          c.requires.no_operands c.flag-flag.result (c.flag-flag.ensures among));
+          c.requires.no_operands c.of.result (rw c.op-op.ensures at c.of.ensures));
       counted = rw (← c.self.view_is) (omega (arith, c.in-Some.ensures.1));
     }
