@@ -1,4 +1,5 @@
-pub mod Chunks
 pub mod Digits
+pub mod InWords
 pub mod ListLemmas
 pub mod Numbers
+pub mod Values

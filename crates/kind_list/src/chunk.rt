@@ -58,6 +58,7 @@ fn packed(kinds: &[Kind]) -> u64
 
 /// The same of any kinds. Few instructions have more than three.
 #[inline(never)]
+#[tactic(auto, using(crate::proofs::Digits::packed_steps), unfolding(crate::specs::Packed::packed))]
 fn packed_many(kinds: &[Kind]) -> u64
     requires { length kinds.now ≤ 32 }
     ensures is { result ≡ packed kinds.now }
@@ -89,6 +90,7 @@ fn joined(low: u64, len: usize, high: u64, more: usize) -> u64
 impl Chunk {
     /// No kinds.
     #[inline(always)]
+    #[tactic(auto, unfolding(crate::specs::Packed::digits_of))]
     pub fn empty() -> Chunk
         ensures { result ≡ [] }
     {
@@ -127,6 +129,7 @@ impl Chunk {
 
     /// How many kinds there are.
     #[inline(always)]
+    #[tactic(auto, using(crate::proofs::Digits::length_kinds))]
     pub fn len(&self) -> usize
         ensures is { result ≡ length self.now }
         ensures few { result ≤ 32 }
@@ -144,6 +147,7 @@ impl Chunk {
 
     /// These kinds, and those of the other chunk after them. They are at most 32.
     #[inline(always)]
+    #[tactic(auto, using(crate::proofs::Digits::length_kinds))]
     pub fn then(&self, other: &Chunk) -> Chunk
         requires { length self.now + length other.now ≤ 32 }
         ensures { result ≡ self.now ++ other.now }
@@ -156,6 +160,7 @@ impl Chunk {
 
     /// The first `count` kinds.
     #[inline(always)]
+    #[tactic(auto, using(crate::proofs::Digits::length_kinds))]
     pub fn first(&self, count: usize) -> Chunk
         requires few { count < 32 }
         requires within { count ≤ length self.now }
@@ -169,6 +174,7 @@ impl Chunk {
 
     /// The kinds, of which the first `count` have been moved to the end.
     #[inline(always)]
+    #[tactic(auto, using(crate::proofs::Digits::length_kinds))]
     pub fn rotated(&self, count: usize) -> Chunk
         requires some { 0 < count }
         requires within { count < length self.now }

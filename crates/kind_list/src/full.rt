@@ -36,6 +36,7 @@ impl FullChunk {
 
     /// The kinds.
     #[inline(always)]
+    #[tactic(auto, using(crate::proofs::Digits::length_kinds))]
     pub(crate) fn chunk(&self) -> Chunk
         ensures is { result ≡ self.now }
         ensures full { length result ≡ 32 }

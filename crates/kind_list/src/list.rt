@@ -60,6 +60,7 @@ impl<A: Allocator> KindList<A> {
 
     /// How many kinds there are.
     #[inline(always)]
+    #[tactic(auto, using(crate::proofs::Digits::length_kinds))]
     pub fn len(&self) -> usize
         ensures { result ≡ length self.now }
     {
@@ -68,6 +69,7 @@ impl<A: Allocator> KindList<A> {
 
     /// Drops the kinds after the first `len`.
     #[inline(always)]
+    #[tactic(auto, using(crate::proofs::Digits::length_kinds))]
     pub fn truncate(&mut self, len: usize)
         ensures { self.new ≡ take len self.old }
     {
@@ -82,6 +84,7 @@ impl<A: Allocator> KindList<A> {
 
     /// The `count` kinds from a place on: at least 1, and at most 32.
     #[inline(always)]
+    #[tactic(auto, using(crate::proofs::Digits::length_kinds))]
     pub fn chunk(&self, from: usize, count: usize) -> Chunk
         requires some { 0 < count }
         requires few { count ≤ 32 }
@@ -128,6 +131,7 @@ impl<A: Allocator> KindList<A> {
     }
 
     #[inline(never)]
+    #[tactic(auto, using(crate::proofs::ListLemmas::length_piece, crate::proofs::ListLemmas::piece_within))]
     fn has_many_at(&self, from: usize, kinds: &[Kind]) -> bool
         requires { from + length kinds.now ≤ length self.now }
         ensures { IsTrue result ↔ (take (length kinds.now) (drop from self.now) ≡ kinds.now) }
@@ -172,6 +176,7 @@ impl<A: Allocator> KindList<A> {
 
     /// The last kinds: at most 32.
     #[inline(always)]
+    #[tactic(auto, using(crate::proofs::Digits::length_kinds))]
     pub fn last_chunk(&self, count: usize) -> Chunk
         requires few { count ≤ 32 }
         requires within { count ≤ length self.now }
@@ -187,6 +192,7 @@ impl<A: Allocator> KindList<A> {
 
     /// Adds the kinds of a chunk at the end.
     #[inline(always)]
+    #[tactic(auto, using(crate::proofs::Digits::length_kinds))]
     pub fn push_chunk(&mut self, chunk: &Chunk) -> Result<(), AllocError>
         ensures pushed { OnOk result (self.new ≡ self.old ++ chunk.now) }
         ensures unchanged { OnErr result (self.new ≡ self.old) }
@@ -212,6 +218,7 @@ impl<A: Allocator> KindList<A> {
 
     /// Adds the kinds of a chunk at the end, if they fill a word.
     #[inline(always)]
+    #[tactic(auto, using(crate::proofs::Digits::length_kinds))]
     fn push_word(&mut self, chunk: &Chunk) -> Result<(), AllocError>
         requires { 32 ≤ length self.old % 32 + length chunk.now }
         ensures pushed { OnOk result (self.new ≡ self.old ++ chunk.now) }
@@ -286,6 +293,7 @@ impl<A: Allocator> KindList<A> {
 
     /// Takes off the last `count` kinds, and adds those of a chunk, if no word is filled and none but the last changes.
     #[inline(always)]
+    #[tactic(auto, using(crate::proofs::Digits::length_kinds))]
     fn replace_in_word(&mut self, count: usize, chunk: &Chunk)
         requires few { count ≤ length self.old % 32 }
         requires room { length self.old % 32 + length chunk.now < 32 + count }
@@ -338,6 +346,7 @@ impl<A: Allocator> KindList<A> {
 
     /// Adds the `count` kinds from a place of another list on at the end.
     #[inline(never)]
+    #[tactic(auto, using(crate::proofs::ListLemmas::later_piece))]
     pub fn append_range(
         &mut self,
         other: &KindList<A>,

@@ -1,10 +1,8 @@
-use Rattle.kind_list.proofs.Chunks.{seen_chunk}
+use Rattle.kind_list.proofs.Digits.{holds}
 use Rattle.kind_list.proofs.chunk.Chunk.digits.Goals as goal
 
 pub returns-clause-is : goal.returns-clause-is
-returns-clause-is c =
-    (seen_chunk c.self.inside.len c.self.inside.digits c.args.self.now c.self.view_is c.self.invariant).0
+returns-clause-is c = rw (← (holds c.self.invariant.packed c.self.view_is).long) c.self.view_is
 
 pub returns-clause-chunk : goal.returns-clause-chunk
-returns-clause-chunk c =
-    (seen_chunk c.self.inside.len c.self.inside.digits c.args.self.now c.self.view_is c.self.invariant).1
+returns-clause-chunk c = rw (← (holds c.self.invariant.packed c.self.view_is).long) c.self.invariant
