@@ -54,7 +54,8 @@ words_hold {len} {ws} {last} {ks} words is =
     }
 
 pub held_words : {len q rest : ℕ} {ws : List ℕ} {last : ℕ} {front end ks : List Kind}
-    → Holds (32 * q) (number_of ws) front → Holds rest last end → length ws ≡ q → rest < 32 → len ≡ 32 * q + rest → front ++ end ≡ ks
+    → Holds (32 * q) (number_of ws) front → Holds rest last end → length ws ≡ q → rest < 32 → len ≡ 32 * q + rest
+    → front ++ end ≡ ks
     → AreInWords len ws last × (kinds_in len ws last ≡ ks)
 held_words {len} {q} {rest} {ws} {last} low high full few sum is =
     let fits : last < 2 ^ 64 = omega (arith, Holds-lt high, pow_mono (let e : 2 * rest ≤ 64 = omega arith in e)) in
@@ -184,8 +185,11 @@ below {len} {new} {ws} {vs} {last} {ks} words within is =
     let low : Holds (32 * q) (number_of vs) (take (32 * q) ks) =
     rw number (Holds-take (32 * q) (omega arith) words.whole refl) in
     let high : Holds r (get_or xs q 0 % 2 ^ (2 * r)) (take r (drop (32 * q) ks)) =
-    rw (← low_there xs q (2 * r) (omega (arith, long)) (omega arith),
-    ← value-drop number_value q xs (omega (arith, long)), place)
+    rw (
+      ← low_there xs q (2 * r) (omega (arith, long)) (omega arith),
+      ← value-drop number_value q xs (omega (arith, long)),
+      place,
+    )
     (Holds-take r (omega arith) (Holds-drop (32 * q) (len - 32 * q) (omega arith) words.whole refl) refl) in
     held_words low high (ap length is ∙ length-take-le q ws some) (omega arith) (omega arith)
     (sym (take-add (32 * q) r ks) ∙ ap (λ n. take n ks) (let e : 32 * q + r ≡ new = omega arith in e))

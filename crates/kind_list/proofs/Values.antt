@@ -21,8 +21,13 @@ module _ {A : Type 0} {value : List A → ℕ} {bits : ℕ} {digit : A → ℕ} 
   pub value-append : (xs ys : List A) → value (xs ++ ys) ≡ value ys * 2 ^ (bits * length xs) + value xs
   value-append [] ys = rw (v.none, mul-zero bits) (omega arith)
   value-append (x ∷ xs) ys =
-      rw (v.more x (xs ++ ys), v.more x xs, value-append xs ys, mul-suc bits (length xs),
-      pow-add 2 (bits * length xs) bits)
+      rw (
+        v.more x (xs ++ ys),
+        v.more x xs,
+        value-append xs ys,
+        mul-suc bits (length xs),
+        pow-add 2 (bits * length xs) bits,
+      )
       (omega arith)
 
   value_parts : (i : ℕ) (xs : List A) → i ≤ length xs
