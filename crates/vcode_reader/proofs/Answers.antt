@@ -2,8 +2,8 @@
 use Rattle.std.proofs.Common.{◌≡◌, ℕ, ◌+◌, List, [], ◌∷◌, Option, Some, None, Result, Ok, Err, inl, inr, refl, ap}
 use Rattle.std.proofs.Common.{◌∙◌, sym, subst}
 use Rattle.vcode_reader.specs.declared.class.Class.{Class}
-use Rattle.vcode_reader.specs.declared.class.Class.TheVariants.{LineFeed, Blank, OpenBrace, CloseBrace, Parenthesis}
-use Rattle.vcode_reader.specs.declared.class.Class.TheVariants.{Plain, Refused}
+use Rattle.vcode_reader.specs.declared.class.Class.TheVariants.{LineFeed, Blank, OpenBrace}
+use Rattle.vcode_reader.specs.declared.class.Class.TheVariants.{Plain}
 use Rattle.vcode_reader.specs.declared.fault.CodeFault.TheVariants.{Unfinished}
 use Rattle.vcode_base.specs.declared.fault.TextFault.TheVariants.{Memory, At}
 use Rattle.vcode_reader.specs.declared.place.Place.{Place}
@@ -66,17 +66,10 @@ by_comment-of_words None LineFeed b r =
 by_comment-of_words None Blank b r = end_word-of_words r
 by_comment-of_words None OpenBrace b r =
     ap (λ (e : Scan Parse). let q : Scan Parse = record e { comment = Some e.line } in q) (end_word-of_words r)
-by_comment-of_words None CloseBrace b r = alone b r
-by_comment-of_words None Parenthesis b r = alone b r
-by_comment-of_words None Refused b r = alone b r
 by_comment-of_words None Plain b r = refl
-by_comment-of_words (Some l) LineFeed b r = refl
-by_comment-of_words (Some l) Blank b r = refl
-by_comment-of_words (Some l) OpenBrace b r = refl
-by_comment-of_words (Some l) CloseBrace b r = refl
-by_comment-of_words (Some l) Parenthesis b r = refl
-by_comment-of_words (Some l) Refused b r = refl
+by_comment-of_words None _ b r = alone b r
 by_comment-of_words (Some l) Plain b r = refl
+by_comment-of_words (Some l) _ b r = refl
 
 scan_byte-of_words : (r : Scan (List Word)) (b : ℕ) →
     scan_byte take (of_words r) b ≡ of_words (scan_byte add_word r b)

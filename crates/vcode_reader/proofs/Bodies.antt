@@ -73,27 +73,7 @@ kind_of_constant s before after ws h =
 of_keyword : (k : Keyword) (parts : ItemParts) (ws : List Word) → Fill (keyword_slots k) no_parts parts ws →
     IsBodyInstruction (instruction_of k parts)
 of_keyword keyword.Const parts ws h = kind_of_constant _ no_parts parts ws h
-of_keyword (keyword.Arith op) parts ws h = tt
-of_keyword (keyword.Compare op) parts ws h = tt
-of_keyword (keyword.Logic op) parts ws h = tt
-of_keyword keyword.Not parts ws h = tt
-of_keyword keyword.Select parts ws h = tt
-of_keyword keyword.IntToBool parts ws h = tt
-of_keyword keyword.BoolToInt parts ws h = tt
-of_keyword (keyword.Scan f) parts ws h = tt
-of_keyword (keyword.Reduce f) parts ws h = tt
-of_keyword keyword.Distribute parts ws h = tt
-of_keyword keyword.Index parts ws h = tt
-of_keyword keyword.Permute parts ws h = tt
-of_keyword keyword.BackPermute parts ws h = tt
-of_keyword keyword.DefaultPermute parts ws h = tt
-of_keyword keyword.Extract parts ws h = tt
-of_keyword keyword.Replace parts ws h = tt
-of_keyword keyword.Pack parts ws h = tt
-of_keyword keyword.MakeSegdes parts ws h = tt
-of_keyword keyword.Lengths parts ws h = tt
-of_keyword (keyword.Move motion) parts ws h = tt
-of_keyword keyword.Call parts ws h = tt
+of_keyword _ parts ws h = tt
 
 proper_instruction : (i : Item) (l : ℕ) (ws : List Word) → IsInstruction i l ws → IsBodyInstruction i
 proper_instruction i l ws h =
@@ -123,31 +103,13 @@ proper_functions (f ∷ fs) ws h =
     All-cons (λ (g : Function). IsProperBody g.body) f fs (proper_body 0 f.body h.3.3 h.3.8)
     (proper_functions fs h.1 h.4)
 
-proper_reading : (first : ℕ) (bytes : List ℕ) (fs : List Function) →
-    reading first bytes ≡ Ok (record { first_line = first; functions = fs }) → HaveProperBodies fs
-proper_reading first bytes fs e =
-    let read = subst (λ r. IsReading r first bytes) e (every_text_is_read first bytes) in
-    proper_functions fs _ read.1.1.spelled
-
-few_reading : (first : ℕ) (bytes : List ℕ) (fs : List Function) →
-    reading first bytes ≡ Ok (record { first_line = first; functions = fs }) → length fs ≤ MOST_FUNCTIONS
-few_reading first bytes fs e =
-    let read = subst (λ r. IsReading r first bytes) e (every_text_is_read first bytes) in read.1.1.few
-
--- no more functions are read than a program may have
-pub few_outcome : (s : Scan Parse) (first size : ℕ) (failed : Bool) (fs : List Function) →
-    IsOfBytes s first size failed → failed ≡ false → outcome s ≡ Ok fs → length fs ≤ MOST_FUNCTIONS
+-- the functions that bytes spell are no more than a program may have, and proper
+pub of_outcome : (s : Scan Parse) (first size : ℕ) (failed : Bool) (fs : List Function) →
+    IsOfBytes s first size failed → failed ≡ false → outcome s ≡ Ok fs →
+    (length fs ≤ MOST_FUNCTIONS) × HaveProperBodies fs
 unfolding reading
-few_outcome s first size failed fs h going e =
+of_outcome s first size failed fs h going e =
     let bytes = h going in
-    few_reading first bytes.0 fs
-    (ap (λ r. program_at first (outcome r)) (sym bytes.1) ∙ ap (program_at first) e)
-
--- the functions that bytes spell
-pub proper_outcome : (s : Scan Parse) (first size : ℕ) (failed : Bool) (fs : List Function) →
-    IsOfBytes s first size failed → failed ≡ false → outcome s ≡ Ok fs → HaveProperBodies fs
-unfolding reading
-proper_outcome s first size failed fs h going e =
-    let bytes = h going in
-    proper_reading first bytes.0 fs
-    (ap (λ r. program_at first (outcome r)) (sym bytes.1) ∙ ap (program_at first) e)
+    let same = ap (λ r. program_at first (outcome r)) (sym bytes.1) ∙ ap (program_at first) e in
+    let read = subst (λ r. IsReading r first bytes.0) same (every_text_is_read first bytes.0) in
+    (read.1.1.few, proper_functions fs _ read.1.1.spelled)

@@ -1,17 +1,17 @@
 -- The place of the first function of a name, and the callee of a CALL.
-use Rattle.std.proofs.Common.{◌≡◌, ◌∙◌, ℕ, suc, ◌+◌, ◌<◌, ◌≤◌, Bool, true, false, inl, inr, cond, List, [], ◌∷◌, ◌++◌}
-use Rattle.std.proofs.Common.{length, take, drop, drop-cons, get_or, add-one, Bor, Option, Some, None, refl, ap, sym}
+use Rattle.std.proofs.Common.{◌≡◌, ◌∙◌, ℕ, ◌+◌, ◌<◌, ◌≤◌, Bool, true, false, inl, inr, cond, List, [], ◌∷◌, ◌++◌}
+use Rattle.std.proofs.Common.{length, take, drop, get_or, Bor, Option, Some, None, refl, ap, sym}
 use Rattle.std.proofs.Common.{arith, subst}
 use Rattle.std.specs.BTreeMap.{BTreeMap, get_by, UpdatesBy}
 use Rattle.std.specs.Bool.{Decides, then_some}
 use Rattle.std.specs.Cmp.Lexicographic.{slice_cmp}
 use Rattle.std.specs.Ordering.{nat_cmp}
-use Rattle.std.specs.Prelude.{map, position, nat_lt, not, option_map, unwrap_or, IfSome}
+use Rattle.std.specs.Prelude.{map, position, nat_lt, option_map, unwrap_or, IfSome}
 use Rattle.std.specs.List.{position_from, position_or_len, slice_get}
 use Rattle.std.specs.Str.{bytes_eq}
 use Rattle.std.proofs.lemmas.Bool.{cases_lt, false≢true}
 use Rattle.std.proofs.lemmas.Bool.Decides.{Decides-eqb, nat_tests}
-use Rattle.std.proofs.lemmas.List.{map-append, take_all, take_more}
+use Rattle.std.proofs.lemmas.List.{drop_more, map-append, take_all, take_more}
 use Rattle.std.proofs.lemmas.List.Quantifiers.{position-Some}
 use Rattle.std.proofs.lemmas.List.Sums.{fails_before_first}
 use Rattle.std.proofs.lemmas.Map.Text.{btree_map_updates_str}
@@ -26,32 +26,6 @@ use Rattle.vcode_reader.specs.Programs.{held_callee, held_callees}
 use Rattle.vcode_reader.specs.Targets.{target_in}
 use Rattle.vcode_reader.specs.Trees.{CodeLine, Function, Item, instruction_line, lines_of}
 use Rattle.vcode_reader.proofs.Pooling.{map_more}
-
--- the first place that passes, counted on from a place
-position_from_is : {A : Type 0} (p : A → Bool) (i : ℕ) (xs : List A) →
-    position_from p i xs ≡ cond (nat_lt (position_or_len p xs) (length xs)) (Some (i + position_or_len p xs)) None
-position_from_is p i [] = refl
-position_from_is p i (x ∷ xs) =
-    one i (position_or_len p xs) (length xs) (position_from p (i + 1) xs) (p x) (position_from_is p (i + 1) xs)
-  where
-    one : (i l n : ℕ) (o : Option ℕ) (t : Bool) → o ≡ cond (nat_lt l n) (Some (i + 1 + l)) None →
-        cond t (Some i) o ≡ cond (nat_lt (cond (not t) (1 + l) 0) (suc n)) (Some (i + cond (not t) (1 + l) 0)) None
-    one i l n o true h =
-        let same : i ≡ i + 0 = omega arith in
-        let below : true ≡ nat_lt 0 (suc n) = grind (arith, nat_tests) in
-        ap (λ z. Some z) same ∙ ap (λ b. cond b (Some (i + 0)) None) below
-    one i l n o false h =
-        let same : i + 1 + l ≡ i + (1 + l) = omega arith in
-        let below : nat_lt l n ≡ nat_lt (1 + l) (suc n) = grind (arith, nat_tests) in
-        h ∙ (ap (λ z. cond (nat_lt l n) (Some z) None) same ∙ ap (λ b. cond b (Some (i + (1 + l))) None) below)
-
-pub position_from-zero : {A : Type 0} (p : A → Bool) (xs : List A) → position_from p 0 xs ≡ position p xs
-position_from-zero p xs =
-    let same : 0 + position_or_len p xs ≡ position_or_len p xs = omega arith in
-    position_from_is p 0 xs ∙ ap (λ z. cond (nat_lt (position_or_len p xs) (length xs)) (Some z) None) same
-
-drop_next : {A : Type 0} (xs : List A) (i : ℕ) (d : A) → i < length xs → drop i xs ≡ get_or xs i d ∷ drop (i + 1) xs
-drop_next xs i d h = rw (add-one i) (drop-cons xs i d h)
 
 -- the callees of a function
 abbrev entry_of : List Function → Function → List (Option ℕ)
@@ -76,7 +50,7 @@ finds_more fs place f bs m n lt at same updates found = λ name.
     btree_map_updates_str bs m n (Some place) updates name
     ∙ (ap (λ z. cond (bytes_eq z name) (Some place) (get_by (λ k. slice_cmp nat_cmp name k.now) m)) same
     ∙ (ap (cond (p f) (Some place)) (found name)
-    ∙ sym (ap (position_from p place) (drop_next fs place f lt ∙ ap (λ z. z ∷ drop (place + 1) fs) at))))
+    ∙ sym (ap (position_from p place) (drop_more fs place f lt ∙ ap (λ z. z ∷ drop (place + 1) fs) at))))
 
 -- the place of the first function of a name, or else the place past the last
 abbrev pub place_of : List Function → Option (List ℕ) → ℕ
@@ -107,10 +81,8 @@ pub callees_more : (fs : List Function) (i : ℕ) (f : Function) (old new : List
     i < length fs → f ≡ get_or fs i f → old ≡ map (held_entry fs) (take i fs) → callees ≡ held_entry fs f →
     new ≡ old ++ callees ∷ [] → new ≡ map (held_entry fs) (take (i + 1) fs)
 callees_more fs i f old new callees lt at before same pushed =
-    pushed ∙ (ap (λ z. z ++ callees ∷ []) before
-    ∙ (ap (λ z. map (held_entry fs) (take i fs) ++ z ∷ []) (same ∙ ap (held_entry fs) at)
-    ∙ (sym (map-append (held_entry fs) (take i fs) (get_or fs i f ∷ []))
-    ∙ sym (ap (map (held_entry fs)) (take_more fs i f lt)))))
+    rw (pushed, before, same, take_more fs i f lt, map-append (held_entry fs) (take i fs) (get_or fs i f ∷ []), ← at)
+    refl
 
 pub callees_all : (fs : List Function) (i : ℕ) (found : List (List ℕ)) → length fs ≤ i →
     found ≡ map (held_entry fs) (take i fs) → found ≡ held_callees fs

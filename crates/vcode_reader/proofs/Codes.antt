@@ -1,6 +1,6 @@
 -- The lines of a body, with more after them, and their targets.
 use Rattle.std.proofs.Common.{◌≡◌, ℕ, zero, suc, ◌+◌, List, [], ◌∷◌, ◌++◌, length, drop, Some, refl, ap, ◌∙◌, sym}
-use Rattle.std.proofs.Common.{arith, append_assoc, length-append}
+use Rattle.std.proofs.Common.{arith, length-append}
 use Rattle.std.specs.Prelude.{slice_get}
 use Rattle.vcode_reader.specs.declared.line.CodeItem.{CodeItem}
 use Rattle.vcode_reader.specs.declared.line.CodeItem.TheVariants as code_item
@@ -8,10 +8,7 @@ use Rattle.vcode_reader.specs.Decode.{AreBodyLines, tree_of, tree_of-body_lines,
 use Rattle.vcode_reader.specs.Targets.{Jumps, first_of, others_of, jumps_before, jumps_from, targets_of, target_in}
 use Rattle.vcode_reader.specs.Targets.{EachPartIsPassed, EachTargetIsFirst}
 use Rattle.vcode_reader.specs.Trees.{Item, Body, End, Do, Choice, CodeLine, line_of, instruction_line, body_lines}
-
-regroup : (x y b rest : List CodeLine) (i m n : CodeLine) →
-    (i ∷ (x ++ (m ∷ (y ++ (n ∷ b))))) ++ rest ≡ i ∷ (x ++ (m ∷ (y ++ (n ∷ (b ++ rest)))))
-regroup x y b rest i m n = simp append_assoc
+use Rattle.vcode_reader.proofs.Drafting.{regroup}
 
 pub body_lines-then_body : (b c : Body) → body_lines (then_body b c) ≡ body_lines b ++ body_lines c
 unfolding then_body

@@ -1,7 +1,9 @@
 -- What closes the open IFs of a draft, as its lines grow.
-use Rattle.std.proofs.Common.{◌≡◌, ℕ, Bool, true, false, List, [], ◌∷◌, ◌++◌, Option, Some, None, refl, ap, ◌∙◌, sym}
+use Rattle.std.proofs.Common.{◌≡◌, ℕ, Bool, true, false, List, [], ◌∷◌, ◌++◌, Some, refl, ap, ◌∙◌, sym}
 use Rattle.std.proofs.Common.{subst, append_assoc}
-use Rattle.std.specs.Prelude.{not}
+use Rattle.std.proofs.lemmas.List.{append-nil}
+use Rattle.std.proofs.lemmas.Bool.{not-true}
+use Rattle.std.proofs.lemmas.Option.{same_Some}
 use Rattle.vcode_base.specs.declared.instr.Instr.TheVariants.{Return}
 use Rattle.vcode_reader.specs.declared.line.CodeItem.TheVariants as code_item
 use Rattle.vcode_reader.specs.declared.place.OpenIf.{OpenIf}
@@ -15,7 +17,7 @@ use Rattle.vcode_reader.specs.Trees.{Item, Body, End, Do, Choice, CodeLine, line
 abbrev pub closing : Body → ℕ → Body → Closing
 closing second e after = record { second = second; end = e; after = after }
 
-regroup : (x y b rest : List CodeLine) (i m n : CodeLine) →
+pub regroup : (x y b rest : List CodeLine) (i m n : CodeLine) →
     (i ∷ (x ++ (m ∷ (y ++ (n ∷ b))))) ++ rest ≡ i ∷ (x ++ (m ∷ (y ++ (n ∷ (b ++ rest)))))
 regroup x y b rest i m n = simp append_assoc
 
@@ -68,22 +70,6 @@ alone_endings is lines l e b cs =
     append_assoc (lines ++ line_of code_item.Else l ∷ []) (line_of code_item.Endif e ∷ []) (endings is b cs)
     ∙ append_assoc lines (line_of code_item.Else l ∷ []) (line_of code_item.Endif e ∷ endings is b cs)
 
--- ---- an innermost IF that was taken off
-
-pub or_else : OpenIf → Option OpenIf → OpenIf
-or_else x None = x
-or_else x (Some y) = y
-
-pub the_first : (i j : OpenIf) → Some i ≡ Some j → i ≡ j
-unfolding or_else
-the_first i j h = ap (or_else i) h
-
-pub some_none : {B : Type 0} (i : OpenIf) → Some i ≡ None → B
-some_none i h = absurd (differ i h)
-  where
-    differ : (i : OpenIf) → Some i ≡ None → ⊥
-    differ i h = cc
-
 -- ---- drafts
 
 pub no_draft : IsDraft [] []
@@ -113,22 +99,15 @@ open_else is lines l h = record {
       (h.closes End (closing b c.end c.after ∷ other_closings cs));
 }
 
-pub not_false : (b : Bool) → not b ≡ true → b ≡ false
-not_false true h = absurd (differ h)
-  where
-    differ : false ≡ true → ⊥
-    differ h = cc
-not_false false h = refl
-
 pub else_draft : (ifs : List OpenIf) (lines : List CodeLine) (i : OpenIf) → Some i ≡ first_of ifs →
     takes_else ifs ≡ true → IsDraft ifs lines →
     IsDraft (open_if i.line true ∷ others_of ifs) (lines ++ line_of code_item.Else i.line ∷ [])
-else_draft [] lines i e t h = some_none i e
+else_draft [] lines i e t h = cc
 else_draft (j ∷ is) lines i e t h =
-    let same : i ≡ j = the_first i j e in
+    let same : i ≡ j = same_Some i j e in
     subst (λ (k : OpenIf). IsDraft (open_if k.line true ∷ is) (lines ++ line_of code_item.Else k.line ∷ []))
     (sym same)
-    (open_else is lines j.line (subst (λ z. IsDraft (open_if j.line z ∷ is) lines) (not_false j.has_else t) h))
+    (open_else is lines j.line (subst (λ z. IsDraft (open_if j.line z ∷ is) lines) (not-true j.has_else t) h))
 
 open_endif : (e : ℕ) (is : List OpenIf) (lines : List CodeLine) (t : Bool) (l : ℕ) →
     IsDraft (open_if l t ∷ is) lines →
@@ -142,9 +121,9 @@ open_endif e is lines false l h = record {
 
 pub endif_draft : (e : ℕ) (ifs : List OpenIf) (lines : List CodeLine) (i : OpenIf) → Some i ≡ first_of ifs →
     IsDraft ifs lines → IsDraft (others_of ifs) (lines_after_endif i e lines)
-endif_draft e [] lines i f h = some_none i f
+endif_draft e [] lines i f h = cc
 endif_draft e (j ∷ is) lines i f h =
-    let same : i ≡ j = the_first i j f in
+    let same : i ≡ j = same_Some i j f in
     subst (λ (k : OpenIf). IsDraft is (lines_after_endif k e lines)) (sym same)
     (open_endif e is lines j.has_else j.line h)
 
@@ -159,15 +138,8 @@ empty_draft lines ifs e f = draft_at lines [] ifs [] e f no_draft
 -- a draft without open IFs is a body
 pub whole_draft : (ifs : List OpenIf) (lines : List CodeLine) → is_open ifs ≡ false → IsDraft ifs lines →
     AreBodyLines lines
-whole_draft [] lines o h = subst AreBodyLines (add_nil lines) (h.closes End [])
-  where
-    add_nil : {A : Type 0} (xs : List A) → xs ++ [] ≡ xs
-    add_nil [] = refl
-    add_nil (x ∷ xs) = ap (λ ys. x ∷ ys) (add_nil xs)
-whole_draft (i ∷ is) lines o h = absurd (differ o)
-  where
-    differ : true ≡ false → ⊥
-    differ h = cc
+whole_draft [] lines o h = subst AreBodyLines (append-nil lines) (h.closes End [])
+whole_draft (i ∷ is) lines o h = cc
 
 -- the lines of a function: those of a body, and a RET after them
 pub whole_function : (name : List ℕ) (line ret : ℕ) (xs lines : List CodeLine) →

@@ -24,7 +24,7 @@ use Rattle.vcode_reader.specs.Keywords.{ItemParts}
 use Rattle.vcode_reader.specs.Numbers.{value_of}
 use Rattle.vcode_reader.specs.Parsing.{Parse, after_name, after_part, after_return, after_slot, at_place, begins_list}
 use Rattle.vcode_reader.specs.Parsing.{has_name, in_list, in_slot, inside, is_no_name, one_element, outside}
-use Rattle.vcode_reader.specs.Parsing.{take, with_fault, word_in}
+use Rattle.vcode_reader.specs.Parsing.{take, word_in}
 use Rattle.vcode_reader.specs.Room.{FitsDraft, FitsParse, FitsPools, FitsText, FunctionsFit}
 use Rattle.vcode_reader.specs.Scan.{Scan, by_comment, end_word, ends_word, in_text, lone_word, scan_all, scan_byte}
 use Rattle.vcode_reader.specs.Trees.{CodeLine, Function, Item, instruction_line, lines_of}
@@ -70,103 +70,94 @@ endif_before e (i ∷ is) lines h = λ draft.
 
 -- ---- words
 
+abbrev Fits : Parse → Type 0
+Fits p = FunctionsFit p.functions × FitsDraft p.draft
+
 -- one of two
-either : (b : Bool) (p q r : Parse) → (b ≡ true → FitsParse q → FitsParse p) →
-    (b ≡ false → FitsParse r → FitsParse p) → FitsParse (if b then q else r) → FitsParse p
+either : (b : Bool) (p q r : Parse) → (b ≡ true → Fits q → Fits p) →
+    (b ≡ false → Fits r → Fits p) → Fits (if b then q else r) → Fits p
 either true p q r f g h = f refl h
 either false p q r f g h = g refl h
 
-fault_before : (r : CodeFault) (l : ℕ) (p : Parse) → FitsParse (with_fault r l p) → FitsParse p
-fault_before r l p h = record { functions = h.functions; draft = h.draft }
-
-slot_before : (k : Keyword) (begun : ℕ) (slots : List WordSlot) (p : Parse) → FitsParse (after_slot k begun slots p) →
-    FitsParse p
-slot_before k begun [] p h = record { functions = h.functions; draft = item_before p.draft _ begun h.draft }
-slot_before k begun (s ∷ slots) p h = record { functions = h.functions; draft = h.draft }
+slot_before : (k : Keyword) (begun : ℕ) (slots : List WordSlot) (p : Parse) → Fits (after_slot k begun slots p) →
+    Fits p
+slot_before k begun [] p h = (h.0, item_before p.draft _ begun h.1)
+slot_before k begun (s ∷ slots) p h = (h.0, h.1)
 
 part_before : (r : Result ItemParts CodeFault) (k : Keyword) (begun l : ℕ) (p : Parse) →
-    FitsParse (after_part r k begun l p) → FitsParse p
+    Fits (after_part r k begun l p) → Fits p
 part_before (Ok parts) k begun l p h =
-    let before = slot_before k begun p.slots (record p { parts = parts }) h in
-    record { functions = before.functions; draft = before.draft }
-part_before (Err r) k begun l p h = fault_before r l p h
+    slot_before k begun p.slots (record p { parts = parts }) h
+part_before (Err r) k begun l p h = h
 
 in_slot_before : (s : WordSlot) (k : Keyword) (begun : ℕ) (t : List ℕ) (l : ℕ) (p : Parse) →
-    FitsParse (in_slot s k begun t l p) → FitsParse p
+    Fits (in_slot s k begun t l p) → Fits p
 in_slot_before s k begun t l p h =
-    either (begins_list s t) p _ _ (λ _ q. record { functions = q.functions; draft = q.draft })
+    either (begins_list s t) p _ _ (λ _ q. q)
     (λ _ q. part_before (word_in s t p.parts) k begun l p q) h
 
-element_before : (o : Option ℤ) (t : List ℕ) (l : ℕ) (p : Parse) → FitsParse (one_element o t l p) → FitsParse p
-element_before None t l p h = fault_before _ l p h
+element_before : (o : Option ℤ) (t : List ℕ) (l : ℕ) (p : Parse) → Fits (one_element o t l p) → Fits p
+element_before None t l p h = h
 element_before (Some n) t l p h =
-    either (nat_lt (length p.parts.numbers) MOST_ELEMENTS) p _ _
-    (λ _ q. record { functions = q.functions; draft = q.draft }) (λ _ q. fault_before _ l p q) h
+    either (nat_lt (length p.parts.numbers) MOST_ELEMENTS) p _ _ (λ _ q. q) (λ _ q. q) h
 
-in_list_before : (k : Keyword) (begun : ℕ) (t : List ℕ) (l : ℕ) (p : Parse) → FitsParse (in_list k begun t l p) →
-    FitsParse p
+in_list_before : (k : Keyword) (begun : ℕ) (t : List ℕ) (l : ℕ) (p : Parse) → Fits (in_list k begun t l p) →
+    Fits p
 in_list_before k begun t l p h =
     either (bytes_eq t (codes ")")) p _ _ (λ _ q. slot_before k begun p.slots p q)
     (λ _ q. element_before (value_of p.parts.kind t) t l p q) h
 
-outside_before : (x : Head) (l : ℕ) (p : Parse) → FitsParse (outside x l p) → FitsParse p
+outside_before : (x : Head) (l : ℕ) (p : Parse) → Fits (outside x l p) → Fits p
 outside_before head.Func l p h =
-    either (nat_lt (length p.functions) MOST_FUNCTIONS) p _ _
-    (λ _ q. record { functions = q.functions; draft = q.draft }) (λ _ q. fault_before _ l p q) h
-outside_before head.Return l p h = fault_before _ l p h
-outside_before head.If l p h = fault_before _ l p h
-outside_before head.Else l p h = fault_before _ l p h
-outside_before head.Endif l p h = fault_before _ l p h
-outside_before (head.Start k) l p h = fault_before _ l p h
-outside_before head.Other l p h = fault_before _ l p h
+    either (nat_lt (length p.functions) MOST_FUNCTIONS) p _ _ (λ _ q. q) (λ _ q. q) h
+outside_before _ l p h = h
 
-name_before : (t : List ℕ) (l : ℕ) (p : Parse) → FitsParse (after_name t l p) → FitsParse p
+name_before : (t : List ℕ) (l : ℕ) (p : Parse) → Fits (after_name t l p) → Fits p
 name_before t l p h =
-    either (is_no_name t) p _ _ (λ _ q. fault_before _ l p q)
-    (λ _ q. either (nat_lt LONGEST_NAME (length t)) p _ _ (λ _ r. fault_before _ l p r)
-    (λ _ r. either (has_name t p.functions) p _ _ (λ _ u. fault_before _ l p u)
-    (λ _ u. record { functions = u.functions; draft = u.draft }) r) q) h
+    either (is_no_name t) p _ _ (λ _ q. q)
+    (λ _ q. either (nat_lt LONGEST_NAME (length t)) p _ _ (λ _ r. r)
+    (λ _ r. either (has_name t p.functions) p _ _ (λ _ u. u) (λ _ u. u) r) q) h
 
-return_before : (l : ℕ) (p : Parse) → is_open p.draft.ifs ≡ false → FitsParse (after_return l p) → FitsParse p
-return_before l p closed h = record {
-  functions = functions_front p.functions _ h.functions;
-  draft = λ draft.
+return_before : (l : ℕ) (p : Parse) → is_open p.draft.ifs ≡ false → Fits (after_return l p) → Fits p
+return_before l p closed h = (
+  functions_front p.functions _ h.0,
+  λ draft.
       let body = whole_draft p.draft.ifs p.draft.lines closed draft in
       front_fits p.draft.lines (instruction_line Return l ∷ [])
-      (function_lines l p.draft.lines p.draft.lines refl body (functions_last p.functions _ h.functions));
-}
+      (function_lines l p.draft.lines p.draft.lines refl body (functions_last p.functions _ h.0)),
+)
 
-inside_before : (x : Head) (slots : List WordSlot) (l : ℕ) (p : Parse) → FitsParse (inside x slots l p) → FitsParse p
+inside_before : (x : Head) (slots : List WordSlot) (l : ℕ) (p : Parse) → Fits (inside x slots l p) → Fits p
 inside_before head.Return slots l p h =
-    either (is_open p.draft.ifs) p _ _ (λ _ q. fault_before _ l p q) (λ closed q. return_before l p closed q) h
+    either (is_open p.draft.ifs) p _ _ (λ _ q. q) (λ closed q. return_before l p closed q) h
 inside_before head.If slots l p h =
     either (nat_lt (length p.draft.ifs) MOST_OPEN_IFS) p _ _
-    (λ _ q. record { functions = q.functions; draft = if_before p.draft l q.draft }) (λ _ q. fault_before _ l p q) h
+    (λ _ q. (q.0, if_before p.draft l q.1)) (λ _ q. q) h
 inside_before head.Else slots l p h =
     either (takes_else p.draft.ifs) p _ _
-    (λ t q. record { functions = q.functions; draft = else_before p.draft.ifs p.draft.lines t q.draft })
-    (λ _ q. fault_before _ l p q) h
+    (λ t q. (q.0, else_before p.draft.ifs p.draft.lines t q.1)) (λ _ q. q) h
 inside_before head.Endif slots l p h =
     either (is_open p.draft.ifs) p _ _
-    (λ _ q. record { functions = q.functions; draft = endif_before l p.draft.ifs p.draft.lines q.draft })
-    (λ _ q. fault_before _ l p q) h
+    (λ _ q. (q.0, endif_before l p.draft.ifs p.draft.lines q.1)) (λ _ q. q) h
 inside_before (head.Start k) slots l p h = slot_before k l slots p h
-inside_before head.Other slots l p h = fault_before _ l p h
-inside_before head.Func slots l p h = fault_before _ l p h
+inside_before _ slots l p h = h
 
-place_before : (x : Place) (t : List ℕ) (l : ℕ) (p : Parse) → FitsParse (at_place x t l p) → FitsParse p
+place_before : (x : Place) (t : List ℕ) (l : ℕ) (p : Parse) → Fits (at_place x t l p) → Fits p
 place_before Outside t l p h = outside_before (head_of t) l p h
 place_before Name t l p h = name_before t l p h
 place_before Inside t l p h = inside_before (head_of t) (slots_of t) l p h
 place_before InsideOrInt t l p h =
-    either (bytes_eq t (codes "INT")) p _ _ (λ _ q. record { functions = q.functions; draft = q.draft })
+    either (bytes_eq t (codes "INT")) p _ _ (λ _ q. q)
     (λ _ q. inside_before (head_of t) (slots_of t) l p q) h
 place_before (Words k s begun) t l p h = in_slot_before s k begun t l p h
 place_before (Elements k begun opened) t l p h = in_list_before k begun t l p h
 
 pub word_before : (t : List ℕ) (l : ℕ) (p : Parse) → FitsParse (take t l p) → FitsParse p
 unfolding take
-word_before t l p h = either (is_some p.fault) p _ _ (λ _ q. q) (λ _ q. place_before p.place t l p q) h
+word_before t l p h =
+    let fits : Fits p =
+    either (is_some p.fault) p _ _ (λ _ q. q) (λ _ q. place_before p.place t l p q) (h.functions, h.draft) in
+    record { functions = fits.0; draft = fits.1 }
 
 -- ---- bytes
 
@@ -188,17 +179,10 @@ byte_before : (o : Option ℕ) (c : Class) (b : ℕ) (s : Scan Parse) → FitsPa
 byte_before None LineFeed b s h = end_before s h
 byte_before None Blank b s h = end_before s h
 byte_before None OpenBrace b s h = end_before s h
-byte_before None CloseBrace b s h = end_before s (lone_before b (end_word take s) h)
-byte_before None Parenthesis b s h = end_before s (lone_before b (end_word take s) h)
-byte_before None Refused b s h = end_before s (lone_before b (end_word take s) h)
 byte_before None Plain b s h = h
-byte_before (Some l) LineFeed b s h = h
-byte_before (Some l) Blank b s h = h
-byte_before (Some l) OpenBrace b s h = h
-byte_before (Some l) CloseBrace b s h = h
-byte_before (Some l) Parenthesis b s h = h
-byte_before (Some l) Refused b s h = h
+byte_before None _ b s h = end_before s (lone_before b (end_word take s) h)
 byte_before (Some l) Plain b s h = h
+byte_before (Some l) _ b s h = h
 
 bytes_before : (bs : List ℕ) (s : Scan Parse) → FitsParse (scan_all take s bs).found → FitsParse s.found
 unfolding scan_all scan_byte

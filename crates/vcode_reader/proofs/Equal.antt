@@ -26,9 +26,7 @@ same_span s t = nat_eq s.start t.start && nat_eq s.len t.len
 
 pub same_spans : (s t : Span) → Decides (same_span s t) (s ≡ t)
 same_spans s t =
-    Decides-like _ (λ (e, f). ap (λ z. let x : Span = record { start = z; len = s.len } in x) e
-    ∙ ap (λ z. let x : Span = record { start = t.start; len = z } in x) f)
-    (λ e. (ap (λ (x : Span). x.start) e, ap (λ (x : Span). x.len) e))
+    Decides-like _ (λ (e, f). λ i. record { start = e i; len = f i }) (λ e. (λ i. (e i).start, λ i. (e i).len))
     (Decides-and _ _ (Decides-eqb s.start t.start) (Decides-eqb s.len t.len))
 
 -- lines are equal if their pooled lines and the pools are
@@ -36,10 +34,8 @@ module _ {F : PooledItem → PooledItem → Bool}
     (exact : (i j : PooledItem) → Decides (F i j) (i ≡ j)) where
   same_line : (a b : PooledLine) → Decides (F a.item b.item && nat_eq a.distance b.distance) (a ≡ b)
   same_line a b =
-      Decides-like _ (λ (i, n). ap
-      (λ (z : PooledItem). let l : PooledLine = record { item = z; distance = a.distance } in l) i
-      ∙ ap (λ z. let l : PooledLine = record { item = b.item; distance = z } in l) n)
-      (λ e. (ap (λ (x : PooledLine). x.item) e, ap (λ (x : PooledLine). x.distance) e))
+      Decides-like _ (λ (e, n). λ i. record { item = e i; distance = n i })
+      (λ e. (λ i. (e i).item, λ i. (e i).distance))
       (Decides-and _ _ (exact a.item b.item) (Decides-eqb a.distance b.distance))
 
   pub same_lines : (xs ys : List CodeLine) →
@@ -48,10 +44,7 @@ module _ {F : PooledItem → PooledItem → Bool}
       (pointwise int_eq (all_lists xs) (all_lists ys) && pointwise nat_eq (all_names xs) (all_names ys)))) (xs ≡ ys)
   same_lines xs ys =
       Decides-like _ (λ (n, (e, (f, g))). sym (linked_again xs)
-      ∙ (ap (λ z. shown_lines z (all_lists xs) (all_names xs) (linked_lines xs)) n
-      ∙ (ap (λ z. shown_lines (least_number ys) (all_lists xs) (all_names xs) z) e
-      ∙ (ap (λ z. shown_lines (least_number ys) z (all_names xs) (linked_lines ys)) f
-      ∙ (ap (λ z. shown_lines (least_number ys) (all_lists ys) z (linked_lines ys)) g ∙ linked_again ys)))))
+      ∙ ((λ i. shown_lines (n i) (f i) (g i) (e i)) ∙ linked_again ys))
       (λ e. (ap least_number e, (ap linked_lines e, (ap all_lists e, ap all_names e))))
       (Decides-and _ _ (Decides-eqb (least_number xs) (least_number ys))
       (Decides-and _ _ (slice_eq-Decides same_line (linked_lines xs) (linked_lines ys) _ refl)
@@ -64,10 +57,8 @@ module _ {L : List CodeLine → List CodeLine → Bool}
       Decides (pointwise nat_eq f.name g.name && (nat_eq f.line g.line && L (lines_of f) (lines_of g))) (f ≡ g)
   same_functions f g =
       Decides-like _ (λ (n, (l, ls)). sym (function_of-lines_of f)
-      ∙ (ap (λ z. function_of z f.line (lines_of f)) n
-      ∙ (ap (λ z. function_of g.name z (lines_of f)) l
-      ∙ (ap (function_of g.name g.line) ls ∙ function_of-lines_of g))))
-      (λ e. (ap (λ (x : Function). x.name) e, (ap (λ (x : Function). x.line) e, ap lines_of e)))
+      ∙ ((λ i. function_of (n i) (l i) (ls i)) ∙ function_of-lines_of g))
+      (λ e. (λ i. (e i).name, (λ i. (e i).line, ap lines_of e)))
       (Decides-and _ _ (slice_eq-Decides Decides-eqb f.name g.name _ refl)
       (Decides-and _ _ (Decides-eqb f.line g.line) (exact_lines (lines_of f) (lines_of g))))
 
@@ -78,13 +69,8 @@ module _ {L : List CodeLine → List CodeLine → Bool}
       q.functions && pointwise (pointwise nat_eq)
       (held_callees p.functions) (held_callees q.functions))) (p ≡ q)
   same_programs p q =
-      Decides-like _ (λ (n, (fs, _)). ap
-      (λ z. let r : Program = record { first_line = z; functions = p.functions } in r) n
-      ∙ ap (λ z. let r : Program = record { first_line = q.first_line; functions = z } in r) fs)
-      (λ e. (
-        ap (λ (x : Program). x.first_line) e,
-        (ap (λ (x : Program). x.functions) e, ap (λ (x : Program). held_callees x.functions) e),
-      ))
+      Decides-like _ (λ (n, (fs, _)). λ i. record { first_line = n i; functions = fs i })
+      (λ e. (λ i. (e i).first_line, (λ i. (e i).functions, λ i. held_callees (e i).functions)))
       (Decides-and _ _ (Decides-eqb p.first_line q.first_line)
       (Decides-and _ _ (slice_eq-Decides same_functions p.functions q.functions _ refl)
       (slice_eq-Decides (λ a b. slice_eq-Decides Decides-eqb a b _ refl) (held_callees p.functions)

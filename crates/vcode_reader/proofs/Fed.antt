@@ -1,14 +1,14 @@
 -- What has come in pieces.
 use Rattle.std.proofs.Common.{◌≡◌, ℕ, ◌+◌, Bool, true, false, List, [], ◌∷◌, ◌++◌, Option, Some, None, Result, Ok, Err}
-use Rattle.std.proofs.Common.{ap, ◌∙◌, ◌≤◌, arith, length, length-append, sym}
-use Rattle.std.specs.Prelude.{OnOk, is_err, is_some, if◌then◌else◌}
+use Rattle.std.proofs.Common.{refl, ap, ◌∙◌, ◌≤◌, arith, length, length-append, sym}
+use Rattle.std.specs.Prelude.{OnOk, is_err}
 use Rattle.vcode_base.specs.declared.fault.TextFault.TheVariants.{Memory, At}
 use Rattle.vcode_reader.specs.declared.class.Class.{Class}
-use Rattle.vcode_reader.specs.declared.class.Class.TheVariants.{LineFeed, Blank, OpenBrace, CloseBrace, Parenthesis}
-use Rattle.vcode_reader.specs.declared.class.Class.TheVariants.{Plain, Refused}
+use Rattle.vcode_reader.specs.declared.class.Class.TheVariants.{LineFeed, Blank, OpenBrace}
+use Rattle.vcode_reader.specs.declared.class.Class.TheVariants.{Plain}
 use Rattle.vcode_reader.specs.declared.reader.TheConstants.{MOST_CODE_BYTES}
 use Rattle.vcode_reader.specs.Classes.{class_of}
-use Rattle.vcode_reader.specs.Parsing.{Parse, at_place, start, take}
+use Rattle.vcode_reader.specs.Parsing.{Parse, start, take}
 use Rattle.vcode_reader.specs.Reading.{ReaderState, HasCome, HasScanned, IsOfBytes, outcome, program_at, reading}
 use Rattle.vcode_reader.specs.Reading.{result_at_end}
 use Rattle.vcode_reader.specs.Refusals.{Fault, ReadFault}
@@ -77,14 +77,9 @@ answer_err (At refusal line) r e bytes h = came r bytes h ∙ ap (program_at r.f
 
 -- ---- a text that has a fault
 
-kept_by : (o : Option Fault) (p q : Parse) (f : Fault) → o ≡ Some f → p.fault ≡ Some f →
-    (if is_some o then p else q).fault ≡ Some f
-kept_by (Some g) p q f e h = h
-kept_by None p q f e h = absurd (let none : None ≡ Some f = e in cc)
-
 fault_stays : (t : List ℕ) (l : ℕ) (p : Parse) (f : Fault) → p.fault ≡ Some f → (take t l p).fault ≡ Some f
 unfolding take
-fault_stays t l p f h = kept_by p.fault p (at_place p.place t l p) f h h
+fault_stays t l p f h = rw h refl
 
 in_word : (t : List ℕ) (s : Scan Parse) (f : Fault) → s.found.fault ≡ Some f →
     (ends_word take t s).found.fault ≡ Some f
@@ -101,17 +96,10 @@ unfolding lone_word
 in_byte None LineFeed b s f h = at_word_end s f h
 in_byte None Blank b s f h = at_word_end s f h
 in_byte None OpenBrace b s f h = at_word_end s f h
-in_byte None CloseBrace b s f h = fault_stays (b ∷ []) _ _ f (at_word_end s f h)
-in_byte None Parenthesis b s f h = fault_stays (b ∷ []) _ _ f (at_word_end s f h)
-in_byte None Refused b s f h = fault_stays (b ∷ []) _ _ f (at_word_end s f h)
 in_byte None Plain b s f h = h
-in_byte (Some l) LineFeed b s f h = h
-in_byte (Some l) Blank b s f h = h
-in_byte (Some l) OpenBrace b s f h = h
-in_byte (Some l) CloseBrace b s f h = h
-in_byte (Some l) Parenthesis b s f h = h
-in_byte (Some l) Refused b s f h = h
+in_byte None _ b s f h = fault_stays (b ∷ []) _ _ f (at_word_end s f h)
 in_byte (Some l) Plain b s f h = h
+in_byte (Some l) _ b s f h = h
 
 in_bytes : (bs : List ℕ) (s : Scan Parse) (f : Fault) → s.found.fault ≡ Some f →
     (scan_all take s bs).found.fault ≡ Some f

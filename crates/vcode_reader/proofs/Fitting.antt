@@ -1,10 +1,10 @@
 -- A word that is taken in a slot fits it.
-use Rattle.std.proofs.Common.{◌≡◌, ℕ, ℤ, ◌≤◌, Bool, true, false, inl, inr, ◌||◌, List, length, Option, Some, None}
-use Rattle.std.proofs.Common.{Result, Ok, Err, cond, refl, arith, ap, sym, subst, codes}
+use Rattle.std.proofs.Common.{◌≡◌, ℕ, ℤ, Bool, true, false, inl, inr, ◌||◌, List, length, Option, Some, None}
+use Rattle.std.proofs.Common.{Result, Ok, Err, cond, refl, ap, sym, subst, codes}
 use Rattle.std.specs.Prelude.{nat_lt, pos, negsuc}
 use Rattle.std.specs.Str.{bytes_eq}
-use Rattle.std.proofs.lemmas.Bool.Decides.{nat_tests}
 use Rattle.std.proofs.lemmas.Slice.Eq.{bytes_eq-Decides}
+use Rattle.std.proofs.lemmas.Bool.{or_parts, ltb-false}
 use Rattle.vcode_base.specs.declared.kind.Scalar.TheVariants as scalar
 use Rattle.vcode_base.specs.declared.limits.TheConstants.{LONGEST_NAME, MOST_MOVED}
 use Rattle.vcode_reader.specs.declared.fault.CodeFault.{CodeFault}
@@ -27,25 +27,12 @@ unfolding given
 same_ok x y h = ap (given x) h
 
 err_is_ok : {A E B : Type 0} (e : E) (x : A) → (let s : Result A E = Err e in s ≡ Ok x) → B
-err_is_ok e x h = absurd (differ e x h)
-  where
-    differ : {A E : Type 0} (e : E) (x : A) → (let s : Result A E = Err e in s ≡ Ok x) → ⊥
-    differ e x h = cc
+err_is_ok e x h = cc
 
 not_err : {A E : Type 0} (b : Bool) (e : E) (x : Result A E) (y : A) → cond b (Err e) x ≡ Ok y →
     (b ≡ false) × (x ≡ Ok y)
 not_err true e x y h = err_is_ok e y h
 not_err false e x y h = (refl, h)
-
-pub or_false : (a b : Bool) → (a || b) ≡ false → (a ≡ false) × (b ≡ false)
-or_false true b h = absurd (differ h)
-  where
-    differ : true ≡ false → ⊥
-    differ h = cc
-or_false false b h = (refl, h)
-
-pub at_most : (m n : ℕ) → nat_lt m n ≡ false → n ≤ m
-at_most m n h = grind (arith, nat_tests)
 
 int_fits : (b : Bool) (t : List ℕ) (q r : ItemParts) → bytes_eq t (codes "INT") ≡ b →
     with_kind (cond b (Some scalar.Int) None) q ≡ Ok r → Fits Int t q r
@@ -67,7 +54,7 @@ value_fits (Some n) t q r e h = (n, e, sym (same_ok _ _ h))
 within_count : (b : Bool) (t : List ℕ) (m n : ℕ) → number_of t ≡ Some (pos m) → nat_lt MOST_MOVED m ≡ b →
     (let s : Result ℕ CodeFault = cond b (Err TooLarge) (Ok m) in s ≡ Ok n) → IsCount t n
 within_count true t m n e l h = err_is_ok TooLarge n h
-within_count false t m n e l h = subst (IsCount t) (same_ok m n h) (e, at_most MOST_MOVED m l)
+within_count false t m n e l h = subst (IsCount t) (same_ok m n h) (e, ltb-false MOST_MOVED m l)
 
 count_fits : (o : Option ℤ) (t : List ℕ) (n : ℕ) → number_of t ≡ o → count_in (natural o) t ≡ Ok n → IsCount t n
 count_fits None t n e h = err_is_ok _ n h
@@ -88,8 +75,8 @@ callee_fits : (t : List ℕ) (q r : ItemParts) → with_callee t q ≡ Ok r → 
 callee_fits t q r h =
     let bare = not_err (is_parenthesis t || is_bad t) BadWord _ r h in
     let short = not_err (nat_lt LONGEST_NAME (length t)) TooLarge _ r bare.1 in
-    let parts = or_false (is_parenthesis t) (is_bad t) bare.0 in (
-      record { bare = parts.0; good = parts.1; short = at_most LONGEST_NAME (length t) short.0 },
+    let parts = or_parts (is_parenthesis t) (is_bad t) bare.0 in (
+      record { bare = parts.0; good = parts.1; short = ltb-false LONGEST_NAME (length t) short.0 },
       sym
           (same_ok _ _ short.1),
     )
@@ -102,15 +89,9 @@ given_fits (Count which) t q r h = counts_fit which (count_in (natural_of t) t) 
 given_fits Callee t q r h = callee_fits t q r h
 
 no_list : {B : Type 0} → false ≡ true → B
-no_list h = absurd (differ h)
-  where
-    differ : false ≡ true → ⊥
-    differ h = cc
+no_list h = cc
 
 -- a list begins in one slot alone, with its parenthesis
 pub list_begins : (s : WordSlot) (t : List ℕ) → begins_list s t ≡ true → (s ≡ Values) × (t ≡ codes "(")
-list_begins Int t h = no_list h
-list_begins Kind t h = no_list h
 list_begins Values t h = (refl, (bytes_eq-Decides t (codes "(")).0 h)
-list_begins (Count which) t h = no_list h
-list_begins Callee t h = no_list h
+list_begins _ t h = no_list h

@@ -1,14 +1,14 @@
 -- A name that no function has.
-use Rattle.std.proofs.Common.{◌≡◌, ℕ, ◌+◌, ◌/◌, ◌%◌, ◌≤◌, Bool, true, false, ◌&&◌, List, [], ◌∷◌, length, cond, refl}
+use Rattle.std.proofs.Common.{◌≡◌, ℕ, ◌+◌, ◌/◌, ◌%◌, ◌≤◌, Bool, true, false, List, [], ◌∷◌, length, cond, refl}
 use Rattle.std.proofs.Common.{arith, ◌∙◌, sym, lit≤}
 use Rattle.std.proofs.lemmas.Bool.Decides.{nat_tests}
 use Rattle.std.specs.Prelude.{nat_lt}
 use Rattle.std.specs.Str.{bytes_eq}
 use Rattle.std.proofs.lemmas.Slice.Eq.{bytes_eq-Decides}
+use Rattle.std.proofs.lemmas.Bool.{false_from_ne_true, and_right}
 use Rattle.vcode_reader.specs.Gram.{IsName}
 use Rattle.vcode_reader.specs.Parsing.{has_name}
 use Rattle.vcode_reader.specs.Trees.{Function}
-use Rattle.vcode_reader.proofs.Runs.{not_true}
 
 -- the numbers but k
 skip : ℕ → ℕ → ℕ
@@ -42,7 +42,7 @@ fresh (g ∷ fs) f one =
     step false g fs f one k le new e other = (k, omega arith, rw (e, new) refl)
     step true g fs f one k le new e (j, less, h) =
         let differs : bytes_eq (f (skip k j)) g.name ≡ false =
-        not_true _ (λ t. skip_is_other k j
+        false_from_ne_true _ (λ t. skip_is_other k j
         (one _ _ ((bytes_eq-Decides (f (skip k j)) g.name).0 t ∙ sym ((bytes_eq-Decides (f k) g.name).0 e)))) in
         (skip k j, omega (arith, skip_is_next k j), rw (differs, h) refl)
 
@@ -56,13 +56,10 @@ candidate_is_one i j h =
     let low : 65 + i % 32 ≡ 65 + j % 32 = cc in
     omega arith
 
-and_false : (b : Bool) → (b && false) ≡ false
-and_false true = refl
-and_false false = refl
-
 candidate_is_name : (k : ℕ) → IsName (candidate k)
 unfolding candidate
-candidate_is_name k = record { bare = rw (and_false _, and_false _) refl; good = refl; short = lit≤ tt }
+candidate_is_name k =
+    record { bare = rw (and_right _ false refl, and_right _ false refl) refl; good = refl; short = lit≤ tt }
 
 pub new_name_for : (fs : List Function) → (t : List ℕ) × IsName t × (has_name t fs ≡ false)
 new_name_for fs = let found = fresh fs candidate candidate_is_one in

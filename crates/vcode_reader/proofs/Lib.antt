@@ -23,4 +23,5 @@ pub mod Runs
 pub mod Sizes
 pub mod Sound
 pub mod Spelling
+pub mod States
 pub mod Whole

@@ -1,7 +1,6 @@
 -- How many lines a text has.
 use Rattle.std.proofs.Common.{◌≡◌, ◌∙◌, ℕ, ◌+◌, ◌<◌, ◌≤◌, Bool, true, false, ◌||◌, ◌==◌, List, [], ◌∷◌, ◌++◌, Option}
-use Rattle.std.proofs.Common.{Some, None, cond, refl, arith, ap, add-zero, sym, length, drop, get_or, add-one}
-use Rattle.std.proofs.Common.{drop-cons}
+use Rattle.std.proofs.Common.{Some, None, cond, refl, arith, ap, add-zero, sym}
 use Rattle.vcode_reader.specs.declared.class.Class.{Class}
 use Rattle.vcode_reader.specs.declared.class.Class.TheVariants.{LineFeed, Blank, OpenBrace, CloseBrace, Parenthesis}
 use Rattle.vcode_reader.specs.declared.class.Class.TheVariants.{Plain, Refused}
@@ -43,19 +42,10 @@ by_comment-line : {P : Type 0} (emit : Emit P) (o : Option ℕ) (c : Class) (b :
     (by_comment emit o c b r).line ≡ r.line + feeds c
 unfolding feeds lone_word
 by_comment-line emit None LineFeed b r = ap (λ n. n + 1) (end_word-line emit r)
-by_comment-line emit None Blank b r = rw (add-zero r.line) (end_word-line emit r)
-by_comment-line emit None OpenBrace b r = rw (add-zero r.line) (end_word-line emit r)
-by_comment-line emit None CloseBrace b r = rw (add-zero r.line) (end_word-line emit r)
-by_comment-line emit None Parenthesis b r = rw (add-zero r.line) (end_word-line emit r)
-by_comment-line emit None Refused b r = rw (add-zero r.line) (end_word-line emit r)
 by_comment-line emit None Plain b r = rw (add-zero r.line) refl
+by_comment-line emit None _ b r = rw (add-zero r.line) (end_word-line emit r)
 by_comment-line emit (Some l) LineFeed b r = refl
-by_comment-line emit (Some l) Blank b r = rw (add-zero r.line) refl
-by_comment-line emit (Some l) OpenBrace b r = rw (add-zero r.line) refl
-by_comment-line emit (Some l) CloseBrace b r = rw (add-zero r.line) refl
-by_comment-line emit (Some l) Parenthesis b r = rw (add-zero r.line) refl
-by_comment-line emit (Some l) Refused b r = rw (add-zero r.line) refl
-by_comment-line emit (Some l) Plain b r = rw (add-zero r.line) refl
+by_comment-line emit (Some l) _ b r = rw (add-zero r.line) refl
 
 scan_byte-line : {P : Type 0} (emit : Emit P) (r : Scan P) (b : ℕ) →
     (scan_byte emit r b).line ≡ r.line + feeds (class_of b)
@@ -72,9 +62,6 @@ line_feed_is-at b h = ap feeds h
 
 line_feed_counts : (b : ℕ) (bs : List ℕ) → class_of b ≡ LineFeed → 1 ≤ line_feeds (b ∷ bs)
 line_feed_counts b bs h = omega (arith, feeds-class_of b, line_feed_is-at b h)
-
-pub drop_next : (s : List ℕ) (i : ℕ) → i < length s → drop i s ≡ get_or s i 0 ∷ drop (i + 1) s
-drop_next s i h = rw (add-one i) (drop-cons s i 0 h)
 
 pub next_room : {P : Type 0} (r : Scan P) (b m : ℕ) (rest all : List ℕ) → all ≡ b ∷ rest →
     r.line + line_feeds all < m → class_of b ≡ LineFeed → r.line + 1 < m

@@ -30,15 +30,7 @@ use Rattle.vcode_reader.proofs.Pooling.{line_there, lines_back, shown_length}
 target_unseen : (ls : List ℤ) (ns : List ℕ) (target : Option ℕ) (i : PooledItem) →
     shown_item ls ns (with_target target i) ≡ shown_item ls ns i
 target_unseen ls ns target (pooled.Const kind span) = refl
-target_unseen ls ns target (pooled.Elementwise op) = refl
-target_unseen ls ns target (pooled.Segmented op) = refl
-target_unseen ls ns target pooled.DoIf = refl
-target_unseen ls ns target (pooled.Move motion lower upper) = refl
-target_unseen ls ns target (pooled.Call span) = refl
-target_unseen ls ns target pooled.Return = refl
-target_unseen ls ns target (pooled.If old) = refl
-target_unseen ls ns target (pooled.Else old) = refl
-target_unseen ls ns target pooled.Endif = refl
+target_unseen ls ns target _ = refl
 
 targets_unseen : (first : ℕ) (ls : List ℤ) (ns : List ℕ) (targets : List (Option ℕ)) (ps : List PooledLine) →
     shown_lines first ls ns (with_targets targets ps) ≡ shown_lines first ls ns ps
@@ -82,13 +74,9 @@ module _ (first : ℕ) (ps slice new ps2 : List PooledLine) (ls ls2 : List ℤ) 
   linked_from : ps2 ≡ linked_lines (shown_lines first ls ns ps)
   unfolding linked_lines
   linked_from =
-      e ∙ (ap (λ n. take n (new ++ drop (length new) ps)) long
-      ∙ (take-append_seam new (drop (length new) ps)
-      ∙ (done
-      ∙ (ap (λ z. with_targets (targets_of (shown_lines first ls ns z)) z) same
-      ∙ (ap (with_targets (targets_of (shown_lines first ls ns ps))) held.lines
-      ∙ ap (λ n. with_targets (targets_of (shown_lines first ls ns ps))
-      (pooled_lines n 0 0 (shown_lines first ls ns ps))) held.least)))))
+      let xs = shown_lines first ls ns ps in
+      e ∙ rw (long, take-append_seam new (drop (length new) ps)) (done ∙ rw same
+      (ap (with_targets (targets_of xs)) (held.lines ∙ ap (λ n. pooled_lines n 0 0 xs) held.least)))
 
   pub now_linked : AreLinked first ps2 ls2 ns2
   now_linked =
@@ -104,22 +92,14 @@ module _ (first : ℕ) (ps slice new ps2 : List PooledLine) (ls ls2 : List ℤ) 
 
 pub lies_too : (i : PooledItem) (ls ms : List ℤ) (ns os : List ℕ) → ms ≡ ls → os ≡ ns →
     ItemLiesIn ls ns i → ItemLiesIn ms os i
-lies_too i ls ms ns os e f h =
-    subst (λ z. ItemLiesIn z os i) (sym e) (subst (λ z. ItemLiesIn ls z i) (sym f) h)
+lies_too i ls ms ns os e f h = rw (e, f) h
 
 item_lies : (i : CodeItem Item) (ls : List ℤ) (ns : List ℕ) (l n : ℕ) (target : Option ℕ) →
     l + length (list_of i) ≤ length ls → n + length (name_of i) ≤ length ns →
     ItemLiesIn ls ns (with_target target (pooled_item l n i))
 item_lies (code_item.Do (instr.Const kind list)) ls ns l n target h k = h
-item_lies (code_item.Do (instr.Elementwise op)) ls ns l n target h k = tt
-item_lies (code_item.Do (instr.Segmented op)) ls ns l n target h k = tt
-item_lies (code_item.Do instr.If) ls ns l n target h k = tt
-item_lies (code_item.Do (instr.Move motion lower upper)) ls ns l n target h k = tt
 item_lies (code_item.Do (instr.Call name)) ls ns l n target h k = k
-item_lies (code_item.Do instr.Return) ls ns l n target h k = tt
-item_lies code_item.If ls ns l n target h k = tt
-item_lies code_item.Else ls ns l n target h k = tt
-item_lies code_item.Endif ls ns l n target h k = tt
+item_lies _ ls ns l n target h k = tt
 
 line_lies : (first : ℕ) (xs : List CodeLine) (ls : List ℤ) (ns : List ℕ) (l n place : ℕ) (targets : List (Option ℕ))
     (p : PooledLine) → l + length (all_lists xs) ≤ length ls → n + length (all_names xs) ≤ length ns →
@@ -157,28 +137,16 @@ first_target : (i : CodeItem Item) (l n place : ℕ) (j : Jumps) →
     target_of (with_target (target_in (first_of (jumps_before i place j).list)) (pooled_item l n i))
     ≡ target_in (slice_get (jumps_before i place j).list zero)
 first_target (code_item.Do (instr.Const kind list)) l n place j = refl
-first_target (code_item.Do (instr.Elementwise op)) l n place j = refl
-first_target (code_item.Do (instr.Segmented op)) l n place j = refl
-first_target (code_item.Do instr.If) l n place j = refl
-first_target (code_item.Do (instr.Move motion lower upper)) l n place j = refl
-first_target (code_item.Do (instr.Call name)) l n place j = refl
-first_target (code_item.Do instr.Return) l n place j = refl
-first_target code_item.If l n place j = refl
-first_target code_item.Else l n place j = refl
-first_target code_item.Endif l n place j = refl
+first_target _ l n place j = refl
 
 other_targets : (i : CodeItem Item) (place : ℕ) (j : Jumps) → others_of (jumps_before i place j).list ≡ j.list
 other_targets (code_item.Do i) place j = refl
-other_targets code_item.If place j = refl
-other_targets code_item.Else place j = refl
-other_targets code_item.Endif place j = refl
+other_targets _ place j = refl
 
 next_target : (i : CodeItem Item) (place k : ℕ) (j : Jumps) →
     slice_get (jumps_before i place j).list (suc k) ≡ slice_get j.list k
 next_target (code_item.Do i) place k j = refl
-next_target code_item.If place k j = refl
-next_target code_item.Else place k j = refl
-next_target code_item.Endif place k j = refl
+next_target _ place k j = refl
 
 target_from : (first : ℕ) (xs : List CodeLine) (l n from place : ℕ) →
     target_of_line (slice_get (with_targets (jumps_from from xs).list (pooled_lines first l n xs)) place)
@@ -236,28 +204,12 @@ jumps_first : (ls : List ℤ) (ns : List ℕ) (i : PooledItem) (place : ℕ) (j 
     with_target (target_in (first_of (jumps_before (shown_item ls ns i) place j).list)) i
     ≡ with_target (first_of j.waits) i
 jumps_first ls ns (pooled.Const kind span) place j = refl
-jumps_first ls ns (pooled.Elementwise op) place j = refl
-jumps_first ls ns (pooled.Segmented op) place j = refl
-jumps_first ls ns pooled.DoIf place j = refl
-jumps_first ls ns (pooled.Move motion lower upper) place j = refl
-jumps_first ls ns (pooled.Call span) place j = refl
-jumps_first ls ns pooled.Return place j = refl
-jumps_first ls ns (pooled.If old) place j = refl
-jumps_first ls ns (pooled.Else old) place j = refl
-jumps_first ls ns pooled.Endif place j = refl
+jumps_first ls ns _ place j = refl
 
 jumps_wait : (ls : List ℤ) (ns : List ℕ) (i : PooledItem) (place : ℕ) (j : Jumps) →
     (jumps_before (shown_item ls ns i) place j).waits ≡ waits_before i place j.waits
 jumps_wait ls ns (pooled.Const kind span) place j = refl
-jumps_wait ls ns (pooled.Elementwise op) place j = refl
-jumps_wait ls ns (pooled.Segmented op) place j = refl
-jumps_wait ls ns pooled.DoIf place j = refl
-jumps_wait ls ns (pooled.Move motion lower upper) place j = refl
-jumps_wait ls ns (pooled.Call span) place j = refl
-jumps_wait ls ns pooled.Return place j = refl
-jumps_wait ls ns (pooled.If old) place j = refl
-jumps_wait ls ns (pooled.Else old) place j = refl
-jumps_wait ls ns pooled.Endif place j = refl
+jumps_wait ls ns _ place j = refl
 
 -- the line before has its target too
 module _ (place : ℕ) (old lines : List PooledLine) (places : List ℕ) (first : ℕ) (ls : List ℤ) (ns : List ℕ)

@@ -6,13 +6,14 @@ use Rattle.std.specs.Prelude.{if◌then◌else◌, codes, nat_lt, is_some}
 use Rattle.std.specs.Str.{bytes_eq}
 use Rattle.std.proofs.lemmas.Bool.Decides.{nat_tests}
 use Rattle.std.proofs.lemmas.Slice.Eq.{bytes_eq-Decides}
+use Rattle.std.proofs.lemmas.List.{length-take-le}
 use Rattle.vcode_base.specs.Bytes.{IsNumberAtFront, decimal, digit_count, digits_from, is_digit}
 use Rattle.vcode_base.specs.declared.kind.Scalar.{Scalar}
 use Rattle.vcode_base.specs.declared.kind.Scalar.TheVariants as scalar
 use Rattle.vcode_base.specs.declared.limits.TheConstants.{MOST_ELEMENTS}
 use Rattle.vcode_reader.specs.declared.fault.CodeFault.TheVariants.{TooLarge}
 use Rattle.vcode_reader.specs.declared.place.Place.{Place}
-use Rattle.vcode_reader.specs.declared.place.Place.TheVariants.{Outside, Name, Inside, InsideOrInt, Words, Elements}
+use Rattle.vcode_reader.specs.declared.place.Place.TheVariants.{Elements}
 use Rattle.vcode_reader.specs.Ahead.{HasDigits, HasNumber, awaits_number}
 use Rattle.vcode_reader.specs.Classes.{class_of, is_plain, plain_length}
 use Rattle.vcode_reader.specs.Numbers.{negative, number_of, positive}
@@ -23,9 +24,7 @@ use Rattle.vcode_reader.proofs.Pieces.{dropped, plain_range, separates, whole_wo
 -- ---- digits at the front of a text
 
 some_taken : (i : ℕ) (t : List ℕ) → 1 ≤ i → i < length t → 1 ≤ length (take i t)
-some_taken zero t some lt = absurd (omega arith)
-some_taken (suc i) [] some lt = absurd (omega arith)
-some_taken (suc i) (x ∷ t) some lt = omega arith
+some_taken i t some lt = omega (arith, length-take-le i t (omega arith))
 
 digit_plain : (b : ℕ) → is_digit b ≡ true → is_plain (class_of b) ≡ true
 digit_plain b h = plain_range b (grind (arith, nat_tests)) (grind (arith, nat_tests))
@@ -129,14 +128,10 @@ no_close w n e = no_lone 41 w n refl e
 
 in_numbers : (place : Place) (kind : Scalar) (p : Parse) (w : List ℕ) (n : ℤ) (l : ℕ) → p.parts.kind ≡ kind
     → awaits_number place kind ≡ true → number_of w ≡ Some n → at_place place w l p ≡ one_element (Some n) w l p
-in_numbers Outside kind p w n l same awaits e = cc
-in_numbers Name kind p w n l same awaits e = cc
-in_numbers Inside kind p w n l same awaits e = cc
-in_numbers InsideOrInt kind p w n l same awaits e = cc
-in_numbers (Words keyword slot begun) kind p w n l same awaits e = cc
 in_numbers (Elements keyword begun line) scalar.Bool p w n l same awaits e = cc
 in_numbers (Elements keyword begun line) scalar.Int p w n l same awaits e =
     rw (no_close w n e, same, e) refl
+in_numbers _ kind p w n l same awaits e = cc
 
 takes_number : (p : Parse) (w : List ℕ) (n : ℤ) (l : ℕ) → is_some p.fault ≡ false
     → awaits_number p.place p.parts.kind ≡ true → number_of w ≡ Some n → take_word w l p ≡ one_element (Some n) w l p

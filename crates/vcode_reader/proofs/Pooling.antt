@@ -23,25 +23,16 @@ use Rattle.vcode_reader.proofs.Least.{AreFrom, are_from, least_then}
 part_back : {A : Type 0} (list p r ls : List A) (l : ℕ) → ls ≡ p ++ (list ++ r) → l ≡ length p →
     take (length list) (drop l ls) ≡ list
 part_back list p r ls l e h =
-    ap (λ n. take (length list) (drop n ls)) h
-    ∙ (ap (λ zs. take (length list) (drop (length p) zs)) e
-    ∙ (ap (take (length list)) (drop-append_seam p (list ++ r)) ∙ take-append_seam list r))
+    rw (h, e, drop-append_seam p (list ++ r)) (take-append_seam list r)
 
 -- an item is what its pooled form shows
 item_back : (i : CodeItem Item) (p r ls : List ℤ) (q s ns : List ℕ) (l n : ℕ) → ls ≡ p ++ (list_of i ++ r) →
     ns ≡ q ++ (name_of i ++ s) → l ≡ length p → n ≡ length q → shown_item ls ns (pooled_item l n i) ≡ i
 item_back (code_item.Do (instr.Const kind list)) p r ls q s ns l n e f h k =
     ap (λ z. code_item.Do (instr.Const kind z)) (part_back list p r ls l e h)
-item_back (code_item.Do (instr.Elementwise op)) p r ls q s ns l n e f h k = refl
-item_back (code_item.Do (instr.Segmented op)) p r ls q s ns l n e f h k = refl
-item_back (code_item.Do instr.If) p r ls q s ns l n e f h k = refl
-item_back (code_item.Do (instr.Move motion lower upper)) p r ls q s ns l n e f h k = refl
 item_back (code_item.Do (instr.Call name)) p r ls q s ns l n e f h k =
     ap (λ z. code_item.Do (instr.Call z)) (part_back name q s ns n f k)
-item_back (code_item.Do instr.Return) p r ls q s ns l n e f h k = refl
-item_back code_item.If p r ls q s ns l n e f h k = refl
-item_back code_item.Else p r ls q s ns l n e f h k = refl
-item_back code_item.Endif p r ls q s ns l n e f h k = refl
+item_back _ p r ls q s ns l n e f h k = refl
 
 number_back : (first number : ℕ) → first ≤ number → first + (number - first) ≡ number
 number_back first number h = omega (arith, h)
@@ -53,16 +44,10 @@ pub lines_back : (first : ℕ) (xs : List CodeLine) (p ls : List ℤ) (q ns : Li
 unfolding shown_lines pooled_lines all_lists all_names
 lines_back first [] p ls q ns l n from e f h k = refl
 lines_back first (x ∷ xs) p ls q ns l n from e f h k =
-    let far : l + length (list_of x.item) ≡ length (p ++ list_of x.item) = omega (
-      arith,
-      length-append p (list_of x.item),
-      h,
-    ) in
-    let on : n + length (name_of x.item) ≡ length (q ++ name_of x.item) = omega (
-      arith,
-      length-append q (name_of x.item),
-      k,
-    ) in
+    let lists = length-append p (list_of x.item) in
+    let names = length-append q (name_of x.item) in
+    let far : l + length (list_of x.item) ≡ length (p ++ list_of x.item) = omega arith in
+    let on : n + length (name_of x.item) ≡ length (q ++ name_of x.item) = omega arith in
     let rest : List CodeLine = shown_lines first ls ns
     (pooled_lines first (l + length (list_of x.item)) (n + length (name_of x.item)) xs) in
     ap (λ z. line_of z (first + (x.number - first)) ∷ rest)
@@ -117,6 +102,14 @@ names_more [] x = append-nil (name_of x.item)
 names_more (y ∷ ys) x =
     ap (λ z. name_of y.item ++ z) (names_more ys x)
     ∙ sym (append_assoc (name_of y.item) (all_names ys) (name_of x.item))
+
+pub length-lists_more : (xs : List CodeLine) (x : CodeLine) →
+    length (all_lists (xs ++ x ∷ [])) ≡ length (all_lists xs) + length (list_of x.item)
+length-lists_more xs x = ap length (lists_more xs x) ∙ length-append (all_lists xs) (list_of x.item)
+
+pub length-names_more : (xs : List CodeLine) (x : CodeLine) →
+    length (all_names (xs ++ x ∷ [])) ≡ length (all_names xs) + length (name_of x.item)
+length-names_more xs x = ap length (names_more xs x) ∙ length-append (all_names xs) (name_of x.item)
 
 lines_more : (first : ℕ) (xs : List CodeLine) (x : CodeLine) (l n k m : ℕ) → k ≡ l + length (all_lists xs) →
     m ≡ n + length (all_names xs) →
@@ -195,9 +188,7 @@ module _ (first first2 : ℕ) (ps ps2 : List PooledLine) (ls ls2 : List ℤ) (ns
 -- the same pools
 pub same_pooled : (first : ℕ) (ps ps2 : List PooledLine) (ls ls2 : List ℤ) (ns ns2 : List ℕ) → ps2 ≡ ps → ls2 ≡ ls →
     ns2 ≡ ns → ArePooled first ps ls ns → ArePooled first ps2 ls2 ns2
-same_pooled first ps ps2 ls ls2 ns ns2 e f g held =
-    subst (λ z. ArePooled first z ls2 ns2) (sym e)
-    (subst (λ z. ArePooled first ps z ns2) (sym f) (subst (λ z. ArePooled first ps ls z) (sym g) held))
+same_pooled first ps ps2 ls ls2 ns ns2 e f g held = rw (e, f, g) held
 
 -- ---- the line at a place
 
@@ -246,6 +237,4 @@ pub map_more : {A B : Type 0} (f : A → B) (xs : List A) (p : ℕ) (x : A) (old
 map_more f xs p x old new h before e =
     let within = slice_get_within xs p x (sym h) in
     let first = get_or_from_slice_get xs p x x (sym h) in
-    e ∙ (ap (λ z. z ++ f x ∷ []) before
-    ∙ (ap (λ z. map f (take p xs) ++ f z ∷ []) (sym first)
-    ∙ (sym (map-append f (take p xs) (get_or xs p x ∷ [])) ∙ sym (ap (map f) (take_more xs p x within)))))
+    rw (e, before, take_more xs p x within, map-append f (take p xs) (get_or xs p x ∷ []), first) refl

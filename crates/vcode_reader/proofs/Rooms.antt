@@ -2,6 +2,7 @@
 use Rattle.std.proofs.Common.{◌≡◌, ◌∙◌, ℕ, ℤ, ◌+◌, ◌^◌, ◌<◌, ◌≤◌, List, [], ◌∷◌, ◌++◌, length, refl, ap, sym, subst}
 use Rattle.std.proofs.Common.{Some, true, false, length-append, arith}
 use Rattle.std.proofs.Math.Nat.{min-eq_left}
+use Rattle.std.proofs.lemmas.Option.{same_Some}
 use Rattle.vcode_base.specs.declared.instr.Instr.TheVariants.{Return}
 use Rattle.vcode_reader.specs.declared.line.CodeItem.TheVariants as code_item
 use Rattle.vcode_reader.specs.declared.place.OpenIf.{OpenIf}
@@ -12,8 +13,8 @@ use Rattle.vcode_reader.specs.Pools.{list_of, name_of, shown_lines}
 use Rattle.vcode_reader.specs.Room.{AreNear, AreTogether, FitsDraft, FitsPools}
 use Rattle.vcode_reader.specs.Targets.{first_of}
 use Rattle.vcode_reader.specs.Trees.{CodeLine, body_lines, instruction_line, line_of}
-use Rattle.vcode_reader.proofs.Drafting.{else_draft, endif_draft, some_none, the_first}
-use Rattle.vcode_reader.proofs.Pooling.{lists_more, names_more, shown_length}
+use Rattle.vcode_reader.proofs.Drafting.{else_draft, endif_draft}
+use Rattle.vcode_reader.proofs.Pooling.{length-lists_more, length-names_more, shown_length}
 
 -- ---- the first of some lines
 
@@ -98,22 +99,8 @@ adds_line first first2 ps ls ns len x held long begin fits =
     record {
       after = rw begins near.0;
       near = rw begins near.1;
-      list =
-          omega (
-            arith,
-            fits.lists,
-            ap length (lists_more xs x),
-            length-append (all_lists xs) (list_of x.item),
-            ap length held.lists,
-          );
-      name =
-          omega (
-            arith,
-            fits.names,
-            ap length (names_more xs x),
-            length-append (all_names xs) (name_of x.item),
-            ap length held.names,
-          );
+      list = omega (arith, fits.lists, length-lists_more xs x, ap length held.lists);
+      name = omega (arith, fits.names, length-names_more xs x, ap length held.names);
     }
 
 -- ---- drafts
@@ -121,16 +108,16 @@ adds_line first first2 ps ls ns len x held long begin fits =
 pub else_fits : (ifs : List OpenIf) (lines : List CodeLine) (i : OpenIf) → Some i ≡ first_of ifs →
     takes_else ifs ≡ true → IsDraft ifs lines → FitsDraft (else_in ifs lines) →
     FitsPools (lines ++ line_of code_item.Else i.line ∷ [])
-else_fits [] lines i e t h fits = some_none i e
+else_fits [] lines i e t h fits = cc
 else_fits (j ∷ is) lines i e t h fits =
-    subst (λ (k : OpenIf). FitsPools (lines ++ line_of code_item.Else k.line ∷ [])) (sym (the_first i j e))
+    subst (λ (k : OpenIf). FitsPools (lines ++ line_of code_item.Else k.line ∷ [])) (sym (same_Some i j e))
     (fits (else_draft (j ∷ is) lines j refl t h))
 
 pub endif_fits : (e : ℕ) (ifs : List OpenIf) (lines : List CodeLine) (i : OpenIf) → Some i ≡ first_of ifs →
     IsDraft ifs lines → FitsDraft (endif_in e ifs lines) → FitsPools (lines_after_endif i e lines)
-endif_fits e [] lines i f h fits = some_none i f
+endif_fits e [] lines i f h fits = cc
 endif_fits e (j ∷ is) lines i f h fits =
-    subst (λ (k : OpenIf). FitsPools (lines_after_endif k e lines)) (sym (the_first i j f))
+    subst (λ (k : OpenIf). FitsPools (lines_after_endif k e lines)) (sym (same_Some i j f))
     (fits (endif_draft e (j ∷ is) lines j refl h))
 
 -- the ELSE that an ENDIF adds

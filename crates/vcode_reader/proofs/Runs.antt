@@ -1,15 +1,16 @@
 -- What the words of the grammar give: the program that it relates to them.
 use Rattle.std.proofs.Common.{◌≡◌, ◌≢◌, ℕ, suc, ℤ, ◌<◌, ◌≤◌, Bool, true, false, inl, inr, List, [], ◌∷◌, ◌++◌, length}
 use Rattle.std.proofs.Common.{Some, None, Ok, refl, arith, ap, ◌∙◌, sym, codes, append_assoc, length-append}
-use Rattle.std.specs.Prelude.{nat_lt}
 use Rattle.std.specs.List.{AllByRecursion}
 use Rattle.std.specs.Str.{bytes_eq}
-use Rattle.std.proofs.lemmas.Bool.Decides.{nat_tests}
 use Rattle.std.proofs.lemmas.Slice.Eq.{bytes_eq-Decides}
+use Rattle.std.proofs.lemmas.List.{append-nil}
+use Rattle.std.proofs.lemmas.Bool.{false_from_ne_true, lt-ltb, le-ltb}
 use Rattle.vcode_base.specs.declared.kind.Scalar.{Scalar}
 use Rattle.vcode_base.specs.declared.kind.Scalar.TheVariants as scalar
 use Rattle.vcode_base.specs.declared.limits.TheConstants.{LONGEST_NAME, MOST_FUNCTIONS, MOST_OPEN_IFS, MOST_ELEMENTS}
 use Rattle.vcode_base.specs.declared.limits.TheConstants.{MOST_MOVED}
+use Rattle.vcode_reader.specs.declared.head.Head.{Head}
 use Rattle.vcode_reader.specs.declared.head.Head.TheVariants as head
 use Rattle.vcode_reader.specs.declared.keyword.Keyword.{Keyword}
 use Rattle.vcode_reader.specs.declared.keyword.WordSlot.{WordSlot}
@@ -57,26 +58,12 @@ from_words p r u v e f = ap (run p) e ∙ f
 pub of_text : (t : List ℕ) (w : Word) (p q : Parse) → w.text ≡ t → take t w.line p ≡ q → take w.text w.line p ≡ q
 of_text t w p q h f = ap (λ x. take x w.line p) h ∙ f
 
-pub add_nil : {A : Type 0} (xs : List A) → xs ++ [] ≡ xs
-add_nil [] = refl
-add_nil (x ∷ xs) = ap (λ ys. x ∷ ys) (add_nil xs)
-
-pub not_true : (b : Bool) → (b ≡ true → ⊥) → b ≡ false
-not_true true h = absurd (h refl)
-not_true false h = refl
-
-less : (a b : ℕ) → a < b → nat_lt a b ≡ true
-less a b h = grind (arith, nat_tests)
-
-not_less : (a b : ℕ) → b ≤ a → nat_lt a b ≡ false
-not_less a b h = grind (arith, nat_tests)
-
 -- ---- one word that fills a slot
 
 paren_is_no_value : (k : Scalar) (c : ℕ) → value_of k (c ∷ []) ≡ None → (t : List ℕ) (n : ℤ) → value_of k t ≡ Some n →
     bytes_eq t (c ∷ []) ≡ false
 paren_is_no_value k c h t n e =
-    not_true (bytes_eq t (c ∷ []))
+    false_from_ne_true (bytes_eq t (c ∷ []))
     (λ b. some_none n (sym e ∙ (ap (value_of k) ((bytes_eq-Decides t (c ∷ [])).0 b) ∙ h)))
   where
     some_none : (n : ℤ) → Some n ≡ None → ⊥
@@ -94,17 +81,14 @@ close_is_no_value scalar.Bool = refl
 
 -- a word that fills a slot begins no list there
 fits_no_list : (s : WordSlot) (t : List ℕ) (q r : ItemParts) → Fits s t q r → begins_list s t ≡ false
-fits_no_list Int t q r h = refl
-fits_no_list Kind t q r h = refl
 fits_no_list Values t q r (n, h, e) = paren_is_no_value q.kind 40 (open_is_no_value q.kind) t n h
-fits_no_list (Count which) t q r h = refl
-fits_no_list Callee t q r h = refl
+fits_no_list _ t q r h = refl
 
 counted : (t : List ℕ) (n : ℕ) → IsCount t n → count_in (natural_of t) t ≡ Ok n
 unfolding natural_of
 counted t n (h, le) =
     let same : natural (number_of t) ≡ Some n = ap natural h in
-    ap (λ o. count_in o t) same ∙ rw (not_less MOST_MOVED n le) refl
+    ap (λ o. count_in o t) same ∙ rw (le-ltb MOST_MOVED n le) refl
 
 -- it gives what the grammar says
 fits_given : (s : WordSlot) (t : List ℕ) (q r : ItemParts) → Fits s t q r → word_in s t q ≡ Ok r
@@ -113,7 +97,7 @@ fits_given Kind t q r (inl (h, e)) = ap (λ z. word_in Kind z q) h ∙ ap Ok (sy
 fits_given Kind t q r (inr (h, e)) = ap (λ z. word_in Kind z q) h ∙ ap Ok (sym e)
 fits_given Values t q r (n, h, e) = ap (λ o. with_value o t q) h ∙ ap Ok (sym e)
 fits_given (Count which) t q r (n, h, e) = ap (λ o. with_count which o q) (counted t n h) ∙ ap Ok (sym e)
-fits_given Callee t q r (h, e) = rw (h.bare, h.good, not_less LONGEST_NAME (length t) h.short) (ap Ok (sym e))
+fits_given Callee t q r (h, e) = rw (h.bare, h.good, le-ltb LONGEST_NAME (length t) h.short) (ap Ok (sym e))
 
 -- ---- the states that the grammar leads to
 
@@ -152,21 +136,6 @@ whole f fs l e =
 int_begins_nothing : head_of (codes "INT") ≡ head.Other
 unfolding head_of rows
 int_begins_nothing = refl
-
-start_not_other : (k : Keyword) → head.Start k ≡ head.Other → ⊥
-start_not_other k h = cc
-
-return_not_other : head.Return ≡ head.Other → ⊥
-return_not_other h = cc
-
-if_not_other : head.If ≡ head.Other → ⊥
-if_not_other h = cc
-
-else_not_other : head.Else ≡ head.Other → ⊥
-else_not_other h = cc
-
-endif_not_other : head.Endif ≡ head.Other → ⊥
-endif_not_other h = cc
 
 -- the lines of a choice, put together
 regroup : (a x y b : List CodeLine) (i m n : CodeLine) →
@@ -218,22 +187,20 @@ after_slot-going k begun (s ∷ slots) place left q o = refl
 
 known_not_int : (t : List ℕ) → (head_of t ≡ head.Other → ⊥) → bytes_eq t (codes "INT") ≡ false
 known_not_int t h =
-    not_true (bytes_eq t (codes "INT"))
+    false_from_ne_true (bytes_eq t (codes "INT"))
     (λ b. h (ap head_of ((bytes_eq-Decides t (codes "INT")).0 b) ∙ int_begins_nothing))
 
-take_item : (b : Bool) (w : Word) (o : Open) → (head_of w.text ≡ head.Other → ⊥) →
-    take w.text w.line (within b o) ≡ inside (head_of w.text) (slots_of w.text) w.line (within b o)
+take_item : (b : Bool) (w : Word) (o : Open) {x : Head} → head_of w.text ≡ x → (x ≡ head.Other → ⊥) →
+    take w.text w.line (within b o) ≡ inside x (slots_of w.text) w.line (within b o)
 unfolding take within
-take_item true w o h = rw (known_not_int w.text h) refl
-take_item false w o h = refl
+take_item true w o h known = rw (known_not_int w.text (λ e. known (sym h ∙ e)), h) refl
+take_item false w o h known = rw h refl
 
 pub take_first : (b : Bool) (w : Word) (k : Keyword) (o : Open) → head_of w.text ≡ head.Start k →
     take w.text w.line (within b o) ≡ going k w.line (slots_of w.text) no_parts o
 unfolding within
 take_first b w k o h =
-    take_item b w o (λ e. start_not_other k (sym h ∙ e))
-    ∙ (ap (λ x. inside x (slots_of w.text) w.line (within b o)) h
-    ∙ after_slot-going k w.line (slots_of w.text) (item_place b) [] no_parts o)
+    take_item b w o h (λ e. cc) ∙ after_slot-going k w.line (slots_of w.text) (item_place b) [] no_parts o
 
 pub take_int : (l : ℕ) (o : Open) → take (codes "INT") l (within true o) ≡ within false o
 unfolding take within
@@ -263,7 +230,7 @@ take_element : (t : List ℕ) (n : ℤ) (k : Keyword) (begun opened l : ℕ) (sl
     ≡ in_elements k begun opened slots (record q { numbers = q.numbers ++ n ∷ [] }) o
 unfolding take within in_elements
 take_element t n k begun opened l slots q o h lt =
-    rw (paren_is_no_value q.kind 41 (close_is_no_value q.kind) t n h, h, less (length q.numbers) MOST_ELEMENTS lt)
+    rw (paren_is_no_value q.kind 41 (close_is_no_value q.kind) t n h, h, lt-ltb (length q.numbers) MOST_ELEMENTS lt)
     refl
 
 elements_run : (ns : List ℤ) (ws : List Word) (k : Keyword) (begun opened : ℕ) (slots : List WordSlot) (q : ItemParts)
@@ -271,7 +238,7 @@ elements_run : (ns : List ℤ) (ws : List Word) (k : Keyword) (begun opened : �
     run (in_elements k begun opened slots (record q { numbers = done }) o) ws
     ≡ in_elements k begun opened slots (record q { numbers = done ++ ns }) o
 elements_run [] [] k begun opened slots q o done h le =
-    no_run _ ∙ ap (λ z. in_elements k begun opened slots (record q { numbers = z }) o) (sym (add_nil done))
+    no_run _ ∙ ap (λ z. in_elements k begun opened slots (record q { numbers = z }) o) (sym (append-nil done))
 elements_run [] (w ∷ ws) k begun opened slots q o done h le = absurd h
 elements_run (n ∷ ns) [] k begun opened slots q o done h le = absurd h
 elements_run (n ∷ ns) (w ∷ ws) k begun opened slots q o done h le =
@@ -339,38 +306,34 @@ instruction_run b i l ws o (k, first, rest, last, q, e, h, f, g, m) =
 pub take_if : (b : Bool) (w : Word) (o : Open) → head_of w.text ≡ head.If → length o.ifs < MOST_OPEN_IFS →
     take w.text w.line (within b o) ≡ within false (if_at o w.line)
 unfolding within if_at
-take_if b w o h lt =
-    take_item b w o (λ e. if_not_other (sym h ∙ e))
-    ∙ (ap (λ x. inside x (slots_of w.text) w.line (within b o)) h
-    ∙ rw (less (length o.ifs) MOST_OPEN_IFS lt) refl)
+take_if b w o h lt = take_item b w o h (λ e. cc) ∙ rw (lt-ltb (length o.ifs) MOST_OPEN_IFS lt) refl
 
-pub take_else : (b : Bool) (w : Word) (fs : List Function) (name : List ℕ) (line : ℕ) (code : List CodeLine) (l : ℕ)
-    (is : List OpenIf) → head_of w.text ≡ head.Else →
-    take w.text w.line (within b (opened fs name line code (open_if l false ∷ is)))
-    ≡ within false (opened fs name line (code ++ line_of code_item.Else l ∷ []) (open_if l true ∷ is))
-unfolding within
-take_else b w fs name line code l is h =
-    take_item b w (opened fs name line code (open_if l false ∷ is)) (λ e. else_not_other (sym h ∙ e))
-    ∙ ap (λ x. inside x (slots_of w.text) w.line (within b (opened fs name line code (open_if l false ∷ is)))) h
+-- inside an IF of a function with these lines
+module _ (b : Bool) (w : Word) (fs : List Function) (name : List ℕ) (line : ℕ) (code : List CodeLine) where
+  pub take_else : (l : ℕ) (is : List OpenIf) → head_of w.text ≡ head.Else →
+      take w.text w.line (within b (opened fs name line code (open_if l false ∷ is)))
+      ≡ within false (opened fs name line (code ++ line_of code_item.Else l ∷ []) (open_if l true ∷ is))
+  unfolding within
+  take_else l is h = take_item b w (opened fs name line code (open_if l false ∷ is)) h (λ e. cc)
 
-pub take_endif : (b : Bool) (w : Word) (fs : List Function) (name : List ℕ) (line : ℕ) (code : List CodeLine)
-    (l : ℕ) (is : List OpenIf) → head_of w.text ≡ head.Endif →
-    take w.text w.line (within b (opened fs name line code (open_if l true ∷ is)))
-    ≡ within false (opened fs name line (code ++ line_of code_item.Endif w.line ∷ []) is)
-unfolding within
-take_endif b w fs name line code l is h =
-    take_item b w (opened fs name line code (open_if l true ∷ is)) (λ e. endif_not_other (sym h ∙ e))
-    ∙ ap (λ x. inside x (slots_of w.text) w.line (within b (opened fs name line code (open_if l true ∷ is)))) h
+  pub take_endif : (l : ℕ) (is : List OpenIf) → head_of w.text ≡ head.Endif →
+      take w.text w.line (within b (opened fs name line code (open_if l true ∷ is)))
+      ≡ within false (opened fs name line (code ++ line_of code_item.Endif w.line ∷ []) is)
+  unfolding within
+  take_endif l is h = take_item b w (opened fs name line code (open_if l true ∷ is)) h (λ e. cc)
 
-pub take_endif_alone : (b : Bool) (w : Word) (fs : List Function) (name : List ℕ) (line : ℕ) (code : List CodeLine)
-    (l : ℕ) (is : List OpenIf) → head_of w.text ≡ head.Endif →
-    take w.text w.line (within b (opened fs name line code (open_if l false ∷ is)))
-    ≡ within false
-    (opened fs name line ((code ++ line_of code_item.Else l ∷ []) ++ line_of code_item.Endif w.line ∷ []) is)
-unfolding within
-take_endif_alone b w fs name line code l is h =
-    take_item b w (opened fs name line code (open_if l false ∷ is)) (λ e. endif_not_other (sym h ∙ e))
-    ∙ ap (λ x. inside x (slots_of w.text) w.line (within b (opened fs name line code (open_if l false ∷ is)))) h
+  pub take_endif_alone : (l : ℕ) (is : List OpenIf) → head_of w.text ≡ head.Endif →
+      let last = (code ++ line_of code_item.Else l ∷ []) ++ line_of code_item.Endif w.line ∷ [] in
+      take w.text w.line (within b (opened fs name line code (open_if l false ∷ is)))
+      ≡ within false (opened fs name line last is)
+  unfolding within
+  take_endif_alone l is h = take_item b w (opened fs name line code (open_if l false ∷ is)) h (λ e. cc)
+
+  pub take_return : head_of w.text ≡ head.Return →
+      take w.text w.line (within b (opened fs name line code []))
+      ≡ between (fs ++ closed_at (opened fs name line code []) w.line ∷ [])
+  unfolding within between closed_at
+  take_return h = take_item b w (opened fs name line code []) h (λ e. cc)
 
 -- a body after these lines
 abbrev Runs : Bool → Body → List Word → Open → Type 0
@@ -394,7 +357,7 @@ second_run c l e second m end fs name line code is (inl (none, f)) he more =
     (opened fs name line ((code ++ line_of code_item.Else l ∷ []) ++ line_of code_item.Endif z ∷ []) is)) he.1
     ∙ ap (λ z. within false (opened fs name line (z ++ line_of code_item.Endif e ∷ []) is))
     (sym (ap (λ z. (code ++ line_of code_item.Else l ∷ []) ++ body_lines z) f
-    ∙ add_nil (code ++ line_of code_item.Else l ∷ []))))))
+    ∙ append-nil (code ++ line_of code_item.Else l ∷ []))))))
 second_run c l e second m end fs name line code is (inr (w, u, f, hw, hb)) he more =
     let (d, r) = more u (opened fs name line (code ++ line_of code_item.Else l ∷ []) (open_if l true ∷ is)) hb in
     from_words _ _ _ _ (ap (λ z. z ++ end ∷ []) f)
@@ -412,7 +375,7 @@ pub body_run : (b : Bool) (body : Body) (ws : List Word) (o : Open) → IsBody (
     Runs b body ws o
 unfolding with_item with_code if_at
 body_run b End ws o h =
-    (b, from_words _ _ ws [] h (no_run _ ∙ ap (λ z. within b (with_code o z)) (sym (add_nil o.code))))
+    (b, from_words _ _ ws [] h (no_run _ ∙ ap (λ z. within b (with_code o z)) (sym (append-nil o.code))))
 body_run b (Do i l body) ws o (u, v, e, h, t) =
     let (c, r) = instruction_run b i l u o h in
     let (d, s) = body_run c body v (with_item o i l) t in (
@@ -444,21 +407,12 @@ body_run b (Choice l first second e body) ws o (begun, end, u, m, v, q, lt, hi, 
 pub take_func : (w : Word) (fs : List Function) → head_of w.text ≡ head.Func → length fs < MOST_FUNCTIONS →
     take w.text w.line (between fs) ≡ naming_at fs w.line
 unfolding take between naming_at
-take_func w fs h lt = ap (λ x. outside x w.line (between fs)) h ∙ rw (less (length fs) MOST_FUNCTIONS lt) refl
+take_func w fs h lt = ap (λ x. outside x w.line (between fs)) h ∙ rw (lt-ltb (length fs) MOST_FUNCTIONS lt) refl
 
 pub take_name : (t : List ℕ) (l k : ℕ) (fs : List Function) → IsName t → has_name t fs ≡ false →
     take t k (naming_at fs l) ≡ within false (record { functions = fs; name = t; line = l; code = []; ifs = [] })
 unfolding take naming_at within
-take_name t l k fs h new = rw (h.bare, h.good, not_less LONGEST_NAME (length t) h.short, new) refl
-
-pub take_return : (b : Bool) (w : Word) (fs : List Function) (name : List ℕ) (line : ℕ) (code : List CodeLine) →
-    head_of w.text ≡ head.Return →
-    take w.text w.line (within b (opened fs name line code []))
-    ≡ between (fs ++ closed_at (opened fs name line code []) w.line ∷ [])
-unfolding within between closed_at
-take_return b w fs name line code h =
-    take_item b w (opened fs name line code []) (λ e. return_not_other (sym h ∙ e))
-    ∙ ap (λ x. inside x (slots_of w.text) w.line (within b (opened fs name line code []))) h
+take_name t l k fs h new = rw (h.bare, h.good, le-ltb LONGEST_NAME (length t) h.short, new) refl
 
 function_run : (f : Function) (ws : List Word) (fs : List Function) → IsFunction f ws →
     has_name f.name fs ≡ false → length fs < MOST_FUNCTIONS →
@@ -486,7 +440,7 @@ new_name [] f fs h = refl
 new_name (d ∷ done) f fs h =
     let other : bytes_eq f.name d.name
     ≡ false =
-    not_true (bytes_eq f.name d.name)
+    false_from_ne_true (bytes_eq f.name d.name)
     (λ b. all_at (λ g. d.name ≢ g.name) done f fs h.0 (sym ((bytes_eq-Decides f.name d.name).0 b))) in
     rw (other, new_name done f fs h.1) refl
 
@@ -497,7 +451,7 @@ fewer done f fs h = omega (arith, length-append done (f ∷ fs))
 functions_run : (fs done : List Function) (ws : List Word) → AreFunctions fs ws → NamesDiffer (done ++ fs) →
     length (done ++ fs) ≤ MOST_FUNCTIONS →
     run (between done) ws ≡ between (done ++ fs)
-functions_run [] done ws h n l = from_words _ _ ws [] h (no_run _ ∙ ap between (sym (add_nil done)))
+functions_run [] done ws h n l = from_words _ _ ws [] h (no_run _ ∙ ap between (sym (append-nil done)))
 functions_run (f ∷ fs) done ws (u, v, e, g, h) n l =
     let regroup : (done ++ f ∷ []) ++ fs ≡ done ++ f ∷ fs = append_assoc done (f ∷ []) fs in
     from_words _ _ _ _ e

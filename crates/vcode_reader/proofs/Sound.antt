@@ -8,6 +8,8 @@ use Rattle.std.specs.List.{AllByRecursion}
 use Rattle.std.specs.Str.{bytes_eq}
 use Rattle.std.proofs.lemmas.Bool.Decides.{nat_tests}
 use Rattle.std.proofs.lemmas.Slice.Eq.{bytes_eq-Decides}
+use Rattle.std.proofs.lemmas.List.{append-nil}
+use Rattle.std.proofs.lemmas.Bool.{or_parts, ltb-false}
 use Rattle.vcode_base.specs.declared.kind.Scalar.{Scalar}
 use Rattle.vcode_base.specs.declared.limits.TheConstants.{LONGEST_NAME, MOST_FUNCTIONS, MOST_OPEN_IFS, MOST_ELEMENTS}
 use Rattle.vcode_reader.specs.declared.fault.CodeFault.{CodeFault}
@@ -37,8 +39,8 @@ use Rattle.vcode_reader.specs.Trees.{Item, Body, End, Do, Choice, CodeLine, Func
 use Rattle.vcode_reader.specs.Trees.{body_lines}
 use Rattle.vcode_reader.proofs.Drafting.{closing, item_endings, if_endings, else_endings, endif_endings}
 use Rattle.vcode_reader.proofs.Drafting.{alone_endings}
-use Rattle.vcode_reader.proofs.Fitting.{or_false, at_most, given_fits, list_begins}
-use Rattle.vcode_reader.proofs.Runs.{no_run, word_run, add_nil, Open, with_item, between, naming_at, within, going}
+use Rattle.vcode_reader.proofs.Fitting.{given_fits, list_begins}
+use Rattle.vcode_reader.proofs.Runs.{no_run, word_run, Open, with_item, between, naming_at, within, going}
 use Rattle.vcode_reader.proofs.Runs.{in_elements, after_slot-going, closed_at, if_at, opened}
 
 -- ---- faults
@@ -47,16 +49,10 @@ abbrev IsFaulty : Parse → Type 0
 IsFaulty p = (f : Fault) × (p.fault ≡ Some f)
 
 pub some_none : {A B : Type 0} (o : Option A) (x : A) → o ≡ Some x → o ≡ None → B
-some_none o x h k = absurd (differ x (sym h ∙ k))
-  where
-    differ : {A : Type 0} (x : A) → Some x ≡ None → ⊥
-    differ x h = cc
+some_none o x h k = cc
 
 some_is_none : {A B : Type 0} (x : A) → Some x ≡ None → B
-some_is_none x h = absurd (differ x h)
-  where
-    differ : {A : Type 0} (x : A) → Some x ≡ None → ⊥
-    differ x h = cc
+some_is_none x h = cc
 
 not_faulty : {B : Type 0} (p : Parse) → IsFaulty p → p.fault ≡ None → B
 not_faulty p h k = some_none p.fault h.0 h.1 k
@@ -84,7 +80,7 @@ NamesDiffer-then : (fs : List Function) (f : Function) → NamesDiffer fs → ha
     NamesDiffer (fs ++ f ∷ [])
 NamesDiffer-then [] f h k = (tt, tt)
 NamesDiffer-then (g ∷ fs) f h k =
-    let parts = or_false (bytes_eq f.name g.name) (has_name f.name fs) k in
+    let parts = or_parts (bytes_eq f.name g.name) (has_name f.name fs) k in
     (all_then (λ x. g.name ≢ x.name) fs f h.0 (other_text g.name f.name parts.0), NamesDiffer-then fs f h.1 parts.1)
 
 AreValues-then : (k : Scalar) (ns : List ℤ) (xs : List Word) (n : ℤ) (w : Word) → AreValues k ns xs →
@@ -119,7 +115,7 @@ taken p t l h = faultless p.fault p _ h
 
 AreFunctions-then : (fs : List Function) (f : Function) (u v : List Word) → AreFunctions fs u →
     IsFunction f v → AreFunctions (fs ++ f ∷ []) (u ++ v)
-AreFunctions-then [] f u v h k = (v, [], ap (λ z. z ++ v) h ∙ sym (add_nil v), k, refl)
+AreFunctions-then [] f u v h k = (v, [], ap (λ z. z ++ v) h ∙ sym (append-nil v), k, refl)
 AreFunctions-then (g ∷ fs) f u v (a, b, e, h, t) k =
     (a, b ++ v, ap (λ z. z ++ v) e ∙ append_assoc a b v, h, AreFunctions-then fs f b v t k)
 
@@ -207,19 +203,21 @@ stands_at : (p q : Parse) (ws : List Word) → p ≡ q → Stands q ws → Stand
 stands_at p q ws e h = subst (λ z. Stands z ws) (sym e) h
 
 no_int : (o : Open) (ws : List Word) → TakesInt false o ws
-no_int o ws h = absurd (differ h)
-  where
-    differ : false ≡ true → ⊥
-    differ h = cc
+no_int o ws h = cc
 
 -- ---- the words of an instruction
+
+-- the same after words that come before, and after lines that these are
+pass_on : {lines ends : List CodeLine} (inner v ws : List Word) → lines ≡ ends →
+    ((whole : Body) × (ends ≡ body_lines whole) × IsBody 0 whole (inner ++ (v ++ ws))) →
+    (whole : Body) × (lines ≡ body_lines whole) × IsBody 0 whole ((inner ++ v) ++ ws)
+pass_on inner v ws e (whole, f, g) = (whole, e ∙ f, subst (IsBody 0 whole) (sym (append_assoc inner v ws)) g)
 
 item_closes : (ifs : List OpenIf) (code : List CodeLine) (inner v : List Word) (i : Item) (l : ℕ) →
     Closes ifs code inner → IsInstruction i l v → Closes ifs (code ++ instruction_line i l ∷ []) (inner ++ v)
 item_closes ifs code inner v i l h k = λ b cs ws c.
-    let (whole, e, g) =
-    h (Do i l b) cs (v ++ ws) (one_more ifs v b (Do i l b) cs ws (λ z t. (v, z, refl, k, t)) c) in
-    (whole, item_endings ifs code i l b cs ∙ e, subst (IsBody 0 whole) (sym (append_assoc inner v ws)) g)
+    pass_on inner v ws (item_endings ifs code i l b cs)
+    (h (Do i l b) cs (v ++ ws) (one_more ifs v b (Do i l b) cs ws (λ z t. (v, z, refl, k, t)) c))
 
 if_words : (u m v : List Word) (begun end : Word) →
     (begun ∷ (u ++ (m ++ end ∷ []))) ++ v ≡ begun ∷ (u ++ (m ++ (end ∷ v)))
@@ -235,61 +233,36 @@ if_closes ifs code inner w h k lt = λ b cs ws (u, m, end, v, e, hb, hm, he, hr)
     let more : Completes ifs next (other_closings cs) ((w ∷ (u ++ (m ++ end ∷ []))) ++ v) =
     one_more ifs (w ∷ (u ++ (m ++ end ∷ []))) c.after next (other_closings cs) v
     (λ z t. (w, end, u, m, z, if_words u m z w end, lt, (k, refl), he, hb, hm, t)) hr in
-    let (whole, f, g) =
-    h next (other_closings cs) (w ∷ ws) (subst (Completes ifs next (other_closings cs)) same more) in (
-      whole,
-      if_endings ifs code w.line b cs
-          ∙ f,
-      subst (IsBody 0 whole) (sym (append_assoc inner (w ∷ []) ws)) g,
-    )
+    pass_on inner (w ∷ []) ws (if_endings ifs code w.line b cs)
+    (h next (other_closings cs) (w ∷ ws) (subst (Completes ifs next (other_closings cs)) same more))
 
 else_closes : (is : List OpenIf) (code : List CodeLine) (inner : List Word) (l : ℕ) (w : Word) →
     Closes (open_if l false ∷ is) code inner → head_of w.text ≡ head.Else →
     Closes (open_if l true ∷ is) (code ++ line_of code_item.Else l ∷ []) (inner ++ w ∷ [])
 else_closes is code inner l w h k = λ b cs ws (u, m, end, v, e, hb, hm, he, hr).
     let c : Closing = closing b (first_closing cs).end (first_closing cs).after in
-    let (whole, f, g) = h End (c ∷ other_closings cs) (w ∷ ws) (
-      [],
-      w ∷ u,
-      end,
-      v,
-      ap (λ z. w ∷ z) (e ∙ ap (λ z. u ++ (z ++ (end ∷ v))) hm),
-      refl,
-      inr
-          (w, u, refl, k, hb),
-      he,
-      hr,
-    ) in
-    (whole, else_endings is code l b cs ∙ f, subst (IsBody 0 whole) (sym (append_assoc inner (w ∷ []) ws)) g)
+    let all = ap (λ z. w ∷ z) (e ∙ ap (λ z. u ++ (z ++ (end ∷ v))) hm) in
+    pass_on inner (w ∷ []) ws (else_endings is code l b cs)
+    (h End (c ∷ other_closings cs) (w ∷ ws) ([], w ∷ u, end, v, all, refl, inr (w, u, refl, k, hb), he, hr))
 
 endif_closes : (is : List OpenIf) (code : List CodeLine) (inner : List Word) (l : ℕ) (w : Word) →
     Closes (open_if l true ∷ is) code inner → head_of w.text ≡ head.Endif →
     Closes is (code ++ line_of code_item.Endif w.line ∷ []) (inner ++ w ∷ [])
 endif_closes is code inner l w h k = λ b cs ws t.
-    let (whole, f, g) =
-    h End (closing End w.line b ∷ cs) (w ∷ ws) ([], [], w, ws, refl, refl, refl, (k, refl), t) in (
-      whole,
-      endif_endings is code l w.line b cs
-          ∙ f,
-      subst (IsBody 0 whole) (sym (append_assoc inner (w ∷ []) ws)) g,
-    )
+    pass_on inner (w ∷ []) ws (endif_endings is code l w.line b cs)
+    (h End (closing End w.line b ∷ cs) (w ∷ ws) ([], [], w, ws, refl, refl, refl, (k, refl), t))
 
 alone_closes : (is : List OpenIf) (code : List CodeLine) (inner : List Word) (l : ℕ) (w : Word) →
     Closes (open_if l false ∷ is) code inner → head_of w.text ≡ head.Endif →
     Closes is ((code ++ line_of code_item.Else l ∷ []) ++ line_of code_item.Endif w.line ∷ []) (inner ++ w ∷ [])
 alone_closes is code inner l w h k = λ b cs ws t.
-    let (whole, f, g) =
-    h End (closing End w.line b ∷ cs) (w ∷ ws) ([], [], w, ws, refl, refl, inl (refl, refl), (k, refl), t) in (
-      whole,
-      alone_endings is code l w.line b cs
-          ∙ f,
-      subst (IsBody 0 whole) (sym (append_assoc inner (w ∷ []) ws)) g,
-    )
+    pass_on inner (w ∷ []) ws (alone_endings is code l w.line b cs)
+    (h End (closing End w.line b ∷ cs) (w ∷ ws) ([], [], w, ws, refl, refl, inl (refl, refl), (k, refl), t))
 
 -- more words of the function that is open
-grown : (o : Open) (code : List CodeLine) (ifs : List OpenIf) (ws v : List Word) (h : Within o ws) →
+grown : {o : Open} {code : List CodeLine} {ifs : List OpenIf} {ws : List Word} (v : List Word) (h : Within o ws) →
     Closes ifs code (h.inner ++ v) → Within (opened o.functions o.name o.line code ifs) (ws ++ v)
-grown o code ifs ws v h k = record {
+grown v h k = record {
   before = h.before;
   func = h.func;
   named = h.named;
@@ -304,46 +277,33 @@ grown o code ifs ws v h k = record {
   closes = k;
 }
 
-within_more : (o : Open) (i : Item) (l : ℕ) (ws v : List Word) → Within o ws → IsInstruction i l v →
+within_more : {o : Open} {ws : List Word} (i : Item) (l : ℕ) (v : List Word) → Within o ws → IsInstruction i l v →
     Within (with_item o i l) (ws ++ v)
 unfolding with_item
-within_more o i l ws v h k =
-    grown o (o.code ++ instruction_line i l ∷ []) o.ifs ws v h (item_closes o.ifs o.code h.inner v i l h.closes k)
+within_more {o} i l v h k = grown v h (item_closes o.ifs o.code h.inner v i l h.closes k)
 
-whole_instruction : (k : Keyword) (q : ItemParts) (o : Open) (first : Word) (done ws last : List Word) →
+whole_instruction : {k : Keyword} {q : ItemParts} {o : Open} {first : Word} {done ws : List Word} (last : List Word) →
     Begun k [] q o first done ws → MayBeInt (takes_int k) last →
     Within (with_item o (instruction_of k q) first.line) (ws ++ last)
-whole_instruction k q o first done ws last h m =
-    subst (Within (with_item o (instruction_of k q) first.line))
-    (sym (ap (λ z. z ++ last) h.words_are ∙ append_assoc h.front (first ∷ done) last))
-    (within_more o (instruction_of k q) first.line h.front (first ∷ (done ++ last)) h.inside (
-      k,
-      first,
-      done,
-      last,
-      q,
-      refl,
-      (h.is_first, refl),
-      refl,
-      subst (Fill (slots_of first.text) no_parts q)
-          (add_nil done) (h.filled q [] (refl, refl)),
-      m,
-    ))
+whole_instruction {k} {q} {first = first} {done = done} last h m =
+    let all = ap (λ z. z ++ last) h.words_are ∙ append_assoc h.front (first ∷ done) last in
+    let filled = subst (Fill (slots_of first.text) no_parts q) (append-nil done) (h.filled q [] (refl, refl)) in
+    rw all (within_more (instruction_of k q) first.line (first ∷ (done ++ last)) h.inside
+    (k, first, done, last, q, refl, (h.is_first, refl), refl, filled, m))
 
-going_stands : (slots : List WordSlot) (k : Keyword) (q : ItemParts) (o : Open) (first : Word) (done ws : List Word) →
+going_stands : (slots : List WordSlot) {k : Keyword} {q : ItemParts} {o : Open} {first : Word} {done ws : List Word} →
     Begun k slots q o first done ws → Stands (going k first.line slots q o) ws
 unfolding going
-going_stands [] k q o first done ws h =
+going_stands [] {k} {q} {o} {first} {ws = ws} h =
     at_inside (takes_int k) (with_item o (instruction_of k q) first.line) refl
-    (subst (Within (with_item o (instruction_of k q) first.line)) (add_nil ws)
-    (whole_instruction k q o first done ws [] h (inl refl)))
-    (λ t w e. whole_instruction k q o first done ws (w ∷ []) h (inr (t, w, refl, e)))
-going_stands (s ∷ slots) k q o first done ws h = at_words k s slots q o first done refl h
+    (subst (Within (with_item o (instruction_of k q) first.line)) (append-nil ws) (whole_instruction [] h (inl refl)))
+    (λ t w e. whole_instruction (w ∷ []) h (inr (t, w, refl, e)))
+going_stands (s ∷ slots) {k} {q} {o} {first} {done} h = at_words k s slots q o first done refl h
 
-begun_more : (k : Keyword) (s : WordSlot) (slots : List WordSlot) (before next : ItemParts) (o : Open) (first : Word)
-    (done ws u : List Word) → Begun k (s ∷ slots) before o first done ws → FillOne s before next u →
+begun_more : {k : Keyword} {s : WordSlot} {slots : List WordSlot} {before next : ItemParts} {o : Open} {first : Word}
+    {done ws : List Word} (u : List Word) → Begun k (s ∷ slots) before o first done ws → FillOne s before next u →
     Begun k slots next o first (done ++ u) (ws ++ u)
-begun_more k s slots before next o first done ws u h i = record {
+begun_more {next = next} {first = first} {done = done} u h i = record {
   front = h.front;
   words_are = ap (λ z. z ++ u) h.words_are ∙ append_assoc h.front (first ∷ done) u;
   is_first = h.is_first;
@@ -355,44 +315,38 @@ begun_more k s slots before next o first done ws u h i = record {
 
 -- ---- one word more
 
-from_state : (p c : Parse) (w : Word) (ws : List Word) → p ≡ c → c.fault ≡ None →
+from_state : {p c : Parse} {ws : List Word} (w : Word) → p ≡ c → c.fault ≡ None →
     (take w.text w.line p).fault ≡ None →
     ((at_place c.place w.text w.line c).fault ≡ None → Stands (at_place c.place w.text w.line c) ws) →
     Stands (take w.text w.line p) ws
-from_state p c w ws e n h f =
-    let same : take w.text w.line p ≡ at_place c.place w.text w.line c = ap (take w.text w.line) e
-    ∙ taken c w.text w.line n in
-    stands_at _ _ ws same (f (sym (ap (λ (x : Parse). x.fault) same) ∙ h))
+from_state {c = c} w e n h f =
+    let same = ap (take w.text w.line) e ∙ taken c w.text w.line n in
+    stands_at _ _ _ same (f (sym (ap (λ (x : Parse). x.fault) same) ∙ h))
 
-func_step : (b : Bool) (fs : List Function) (ws : List Word) (w : Word) → Gram fs ws →
-    head_of w.text ≡ head.Func → nat_lt (length fs) MOST_FUNCTIONS ≡ b →
-    (cond b (naming_at fs w.line) (with_fault TooLarge w.line (between fs))).fault ≡ None →
-    Stands (cond b (naming_at fs w.line) (with_fault TooLarge w.line (between fs))) (ws ++ w ∷ [])
-func_step true fs ws w g t e n = at_name fs ws w refl refl t g (grind (arith, nat_tests))
-func_step false fs ws w g t e n = some_is_none _ n
+func_step : (b : Bool) {fs : List Function} {ws : List Word} (w : Word) → Gram fs ws → head_of w.text ≡ head.Func →
+    nat_lt (length fs) MOST_FUNCTIONS ≡ b →
+    let q = cond b (naming_at fs w.line) (with_fault TooLarge w.line (between fs)) in
+    q.fault ≡ None → Stands q (ws ++ w ∷ [])
+func_step true {fs} {ws} w g t e n = at_name fs ws w refl refl t g (grind (arith, nat_tests))
+func_step false w g t e n = some_is_none _ n
 
-outside_step : (h : Head) (fs : List Function) (ws : List Word) (w : Word) → Gram fs ws → head_of w.text ≡ h →
+outside_step : (h : Head) {fs : List Function} {ws : List Word} (w : Word) → Gram fs ws → head_of w.text ≡ h →
     (outside h w.line (between fs)).fault ≡ None → Stands (outside h w.line (between fs)) (ws ++ w ∷ [])
 unfolding between naming_at
-outside_step head.Func fs ws w g t n = func_step (nat_lt (length fs) MOST_FUNCTIONS) fs ws w g t refl n
-outside_step head.Return fs ws w g t n = some_is_none _ n
-outside_step head.If fs ws w g t n = some_is_none _ n
-outside_step head.Else fs ws w g t n = some_is_none _ n
-outside_step head.Endif fs ws w g t n = some_is_none _ n
-outside_step (head.Start k) fs ws w g t n = some_is_none _ n
-outside_step head.Other fs ws w g t n = some_is_none _ n
+outside_step head.Func {fs} w g t n = func_step (nat_lt (length fs) MOST_FUNCTIONS) w g t refl n
+outside_step _ w g t n = some_is_none _ n
 
-naming_step : (fs : List Function) (u ws : List Word) (func w : Word) → ws ≡ u ++ func ∷ [] →
+naming_step : {fs : List Function} {u ws : List Word} (func w : Word) → ws ≡ u ++ func ∷ [] →
     head_of func.text ≡ head.Func → Gram fs u → length fs < MOST_FUNCTIONS →
     (after_name w.text w.line (naming_at fs func.line)).fault ≡ None →
     Stands (after_name w.text w.line (naming_at fs func.line)) (ws ++ w ∷ [])
 unfolding naming_at within
-naming_step fs u ws func w e k g r n =
+naming_step {fs} {u} {ws} func w e k g r n =
     let bare = chosen_second (is_parenthesis w.text || is_bad w.text) _ _ (_, refl) n in
     let short = chosen_second (nat_lt LONGEST_NAME (length w.text)) _ _ (_, refl) bare.2 in
     let new = chosen_second (has_name w.text fs) _ _ (_, refl) short.2 in
-    let parts = or_false (is_parenthesis w.text) (is_bad w.text) bare.0 in
-    let o : Open = record { functions = fs; name = w.text; line = func.line; code = []; ifs = [] } in
+    let parts = or_parts (is_parenthesis w.text) (is_bad w.text) bare.0 in
+    let o = opened fs w.text func.line [] [] in
     stands_at _ _ _ (bare.1 ∙ (short.1 ∙ new.1))
     (at_inside false o refl (record {
       before = u;
@@ -404,163 +358,143 @@ naming_step fs u ws func w e k g r n =
       room = r;
       is_func = (k, refl);
       is_name = refl;
-      good = record { bare = parts.0; good = parts.1; short = at_most LONGEST_NAME (length w.text) short.0 };
+      good = record { bare = parts.0; good = parts.1; short = ltb-false LONGEST_NAME (length w.text) short.0 };
       new = new.0;
       closes = λ b cs v k. (b, refl, k);
     }) (no_int o (ws ++ w ∷ [])))
 
-return_step : (fs : List Function) (name : List ℕ) (line : ℕ) (code : List CodeLine) (ws : List Word) (w : Word) →
-    Within (opened fs name line code []) ws → head_of w.text ≡ head.Return →
-    Stands (between (fs ++ closed_at (opened fs name line code []) w.line ∷ [])) (ws ++ w ∷ [])
-unfolding closed_at
-return_step fs name line code ws w h t =
-    let v : List Word = h.func ∷ h.named ∷ (h.inner ++ w ∷ []) in
-    let f : Function = closed_at (opened fs name line code []) w.line in
-    let (whole, e, g) = h.closes End [] [] refl in
-    let same : tree_of code ≡ whole = ap tree_of (sym (add_nil code) ∙ e) ∙ tree_of-body_lines whole in
-    let closed : IsBody 0 (tree_of code) h.inner =
-    subst (λ b. IsBody 0 b h.inner) (sym same) (subst (IsBody 0 whole) (add_nil h.inner) g) in
-    at_outside (fs ++ f ∷ []) refl (record {
-      spelled =
-          subst (AreFunctions (fs ++ f ∷ []))
-          (sym (ap (λ z. z ++ w ∷ []) h.words_are ∙ append_assoc h.before (h.func ∷ h.named ∷ h.inner) (w ∷ [])))
-          (AreFunctions-then fs f h.before v h.gram.spelled
-          (h.func, h.named, w, h.inner, refl, h.is_func, h.is_name, h.good, closed, (t, refl)));
-      differ = NamesDiffer-then fs f h.gram.differ h.new;
-      few = omega (arith, length-append fs (f ∷ []), h.room);
-    })
+-- the words that close something, after these lines of a function
+module _ (fs : List Function) (name : List ℕ) (line : ℕ) (code : List CodeLine) (ws : List Word)
+    (w : Word) where
+  abbrev Here : List OpenIf → Type 0
+  Here ifs = Within (opened fs name line code ifs) ws
 
-end_step : (ifs : List OpenIf) (b : Bool) (fs : List Function) (name : List ℕ) (line : ℕ) (code : List CodeLine)
-    (ws : List Word) (w : Word) → Within (opened fs name line code ifs) ws → head_of w.text ≡ head.Return →
-    (inside head.Return (slots_of w.text) w.line (within b (opened fs name line code ifs))).fault ≡ None →
-    Stands (inside head.Return (slots_of w.text) w.line (within b (opened fs name line code ifs))) (ws ++ w ∷ [])
-unfolding within between closed_at
-end_step [] b fs name line code ws w h t n = return_step fs name line code ws w h t
-end_step (i ∷ is) b fs name line code ws w h t n = some_is_none _ n
+  abbrev Leads : Head → Bool → List OpenIf → Type 0
+  Leads h b ifs =
+      let q = inside h (slots_of w.text) w.line (within b (opened fs name line code ifs)) in
+      q.fault ≡ None → Stands q (ws ++ w ∷ [])
 
-if_step : (c : Bool) (b : Bool) (o : Open) (ws : List Word) (w : Word) → Within o ws →
-    head_of w.text ≡ head.If → nat_lt (length o.ifs) MOST_OPEN_IFS ≡ c →
-    let q = cond c (within false (if_at o w.line)) (with_fault TooLarge w.line (within b o)) in
-    q.fault ≡ None → Stands q (ws ++ w ∷ [])
-unfolding if_at
-if_step true b o ws w h t lt n =
-    at_inside false (if_at o w.line) refl
-    (grown o (o.code ++ line_of code_item.If w.line ∷ []) (open_if w.line false ∷ o.ifs) ws (w ∷ []) h
-    (if_closes o.ifs o.code h.inner w h.closes t (grind (arith, nat_tests))))
-    (no_int (if_at o w.line) (ws ++ w ∷ []))
-if_step false b o ws w h t lt n = some_is_none _ n
+  return_step : Here [] → head_of w.text ≡ head.Return →
+      Stands (between (fs ++ closed_at (opened fs name line code []) w.line ∷ [])) (ws ++ w ∷ [])
+  unfolding closed_at
+  return_step h t =
+      let v = h.func ∷ h.named ∷ (h.inner ++ w ∷ []) in
+      let f = closed_at (opened fs name line code []) w.line in
+      let all = ap (λ z. z ++ w ∷ []) h.words_are ∙ append_assoc h.before (h.func ∷ h.named ∷ h.inner) (w ∷ []) in
+      let (whole, e, g) = h.closes End [] [] refl in
+      let same = ap tree_of (sym (append-nil code) ∙ e) ∙ tree_of-body_lines whole in
+      let closed : IsBody 0 (tree_of code) h.inner =
+      subst (λ b. IsBody 0 b h.inner) (sym same) (subst (IsBody 0 whole) (append-nil h.inner) g) in
+      at_outside (fs ++ f ∷ []) refl (record {
+        spelled =
+            subst (AreFunctions (fs ++ f ∷ [])) (sym all)
+            (AreFunctions-then fs f h.before v h.gram.spelled
+            (h.func, h.named, w, h.inner, refl, h.is_func, h.is_name, h.good, closed, (t, refl)));
+        differ = NamesDiffer-then fs f h.gram.differ h.new;
+        few = omega (arith, length-append fs (f ∷ []), h.room);
+      })
 
-else_step : (c : Bool) (b : Bool) (l : ℕ) (is : List OpenIf) (fs : List Function) (name : List ℕ) (line : ℕ)
-    (code : List CodeLine) (ws : List Word) (w : Word) → Within (opened fs name line code (open_if l c ∷ is)) ws →
-    head_of w.text ≡ head.Else →
-    let q = inside head.Else (slots_of w.text) w.line (within b (opened fs name line code (open_if l c ∷ is))) in
-    q.fault ≡ None → Stands q (ws ++ w ∷ [])
-unfolding within
-else_step true b l is fs name line code ws w h t n = some_is_none _ n
-else_step false b l is fs name line code ws w h t n =
-    let o : Open = opened fs name line (code ++ line_of code_item.Else l ∷ []) (open_if l true ∷ is) in
-    at_inside false o refl
-    (grown (opened fs name line code (open_if l false ∷ is)) (code ++ line_of code_item.Else l ∷ [])
-    (open_if l true ∷ is) ws (w ∷ []) h (else_closes is code h.inner l w h.closes t))
-    (no_int o (ws ++ w ∷ []))
+  end_step : (ifs : List OpenIf) (b : Bool) → Here ifs → head_of w.text ≡ head.Return → Leads head.Return b ifs
+  unfolding within between closed_at
+  end_step [] b h t n = return_step h t
+  end_step (i ∷ is) b h t n = some_is_none _ n
 
-elses_step : (ifs : List OpenIf) (b : Bool) (fs : List Function) (name : List ℕ) (line : ℕ) (code : List CodeLine)
-    (ws : List Word) (w : Word) → Within (opened fs name line code ifs) ws → head_of w.text ≡ head.Else →
-    let q = inside head.Else (slots_of w.text) w.line (within b (opened fs name line code ifs)) in
-    q.fault ≡ None → Stands q (ws ++ w ∷ [])
-unfolding within
-elses_step [] b fs name line code ws w h t n = some_is_none _ n
-elses_step (i ∷ is) b fs name line code ws w h t n = else_step i.has_else b i.line is fs name line code ws w h t n
+  else_step : (c b : Bool) (l : ℕ) (is : List OpenIf) → Here (open_if l c ∷ is) → head_of w.text ≡ head.Else →
+      Leads head.Else b (open_if l c ∷ is)
+  unfolding within
+  else_step true b l is h t n = some_is_none _ n
+  else_step false b l is h t n =
+      let o = opened fs name line (code ++ line_of code_item.Else l ∷ []) (open_if l true ∷ is) in
+      at_inside false o refl (grown (w ∷ []) h (else_closes is code h.inner l w h.closes t)) (no_int o (ws ++ w ∷ []))
 
-endif_step : (c : Bool) (b : Bool) (l : ℕ) (is : List OpenIf) (fs : List Function) (name : List ℕ) (line : ℕ)
-    (code : List CodeLine) (ws : List Word) (w : Word) → Within (opened fs name line code (open_if l c ∷ is)) ws →
-    head_of w.text ≡ head.Endif →
-    Stands (inside head.Endif (slots_of w.text) w.line
-    (within b (opened fs name line code (open_if l c ∷ is)))) (ws ++ w ∷ [])
-unfolding within
-endif_step true b l is fs name line code ws w h t =
-    let o : Open = opened fs name line (code ++ line_of code_item.Endif w.line ∷ []) is in
-    at_inside false o refl
-    (grown (opened fs name line code (open_if l true ∷ is)) (code ++ line_of code_item.Endif w.line ∷ []) is ws
-    (w ∷ []) h (endif_closes is code h.inner l w h.closes t))
-    (no_int o (ws ++ w ∷ []))
-endif_step false b l is fs name line code ws w h t =
-    let last : List CodeLine = (code ++ line_of code_item.Else l ∷ []) ++ line_of code_item.Endif w.line ∷ [] in
-    let o : Open = opened fs name line last is in
-    at_inside false o refl
-    (grown (opened fs name line code (open_if l false ∷ is)) last is ws (w ∷ []) h
-    (alone_closes is code h.inner l w h.closes t))
-    (no_int o (ws ++ w ∷ []))
+  elses_step : (ifs : List OpenIf) (b : Bool) → Here ifs → head_of w.text ≡ head.Else → Leads head.Else b ifs
+  unfolding within
+  elses_step [] b h t n = some_is_none _ n
+  elses_step (i ∷ is) b h t n = else_step i.has_else b i.line is h t n
 
-endifs_step : (ifs : List OpenIf) (b : Bool) (fs : List Function) (name : List ℕ) (line : ℕ) (code : List CodeLine)
-    (ws : List Word) (w : Word) → Within (opened fs name line code ifs) ws → head_of w.text ≡ head.Endif →
-    let q = inside head.Endif (slots_of w.text) w.line (within b (opened fs name line code ifs)) in
-    q.fault ≡ None → Stands q (ws ++ w ∷ [])
-unfolding within
-endifs_step [] b fs name line code ws w h t n = some_is_none _ n
-endifs_step (i ∷ is) b fs name line code ws w h t n = endif_step i.has_else b i.line is fs name line code ws w h t
+  endif_step : (c b : Bool) (l : ℕ) (is : List OpenIf) → Here (open_if l c ∷ is) → head_of w.text ≡ head.Endif →
+      Leads head.Endif b (open_if l c ∷ is)
+  unfolding within
+  endif_step true b l is h t n =
+      let o = opened fs name line (code ++ line_of code_item.Endif w.line ∷ []) is in
+      at_inside false o refl (grown (w ∷ []) h (endif_closes is code h.inner l w h.closes t))
+      (no_int o (ws ++ w ∷ []))
+  endif_step false b l is h t n =
+      let last = (code ++ line_of code_item.Else l ∷ []) ++ line_of code_item.Endif w.line ∷ [] in
+      let o = opened fs name line last is in
+      at_inside false o refl (grown (w ∷ []) h (alone_closes is code h.inner l w h.closes t))
+      (no_int o (ws ++ w ∷ []))
 
-inside_step : (h : Head) (b : Bool) (o : Open) (ws : List Word) (w : Word) → Within o ws → head_of w.text ≡ h →
-    (inside h (slots_of w.text) w.line (within b o)).fault ≡ None →
-    Stands (inside h (slots_of w.text) w.line (within b o)) (ws ++ w ∷ [])
-unfolding within if_at
-inside_step head.Func b o ws w h t n = some_is_none _ n
-inside_step head.Return b o ws w h t n = end_step o.ifs b o.functions o.name o.line o.code ws w h t n
-inside_step head.If b o ws w h t n = if_step (nat_lt (length o.ifs) MOST_OPEN_IFS) b o ws w h t refl n
-inside_step head.Else b o ws w h t n = elses_step o.ifs b o.functions o.name o.line o.code ws w h t n
-inside_step head.Endif b o ws w h t n = endifs_step o.ifs b o.functions o.name o.line o.code ws w h t n
-inside_step (head.Start k) b o ws w h t n =
-    stands_at _ _ _ (after_slot-going k w.line (slots_of w.text) (item_place b) [] no_parts o)
-    (going_stands (slots_of w.text) k no_parts o w [] (ws ++ w ∷ [])
-    (record { front = ws; words_are = refl; is_first = t; filled = λ after rest g. g; inside = h }))
-inside_step head.Other b o ws w h t n = some_is_none _ n
+  endifs_step : (ifs : List OpenIf) (b : Bool) → Here ifs → head_of w.text ≡ head.Endif → Leads head.Endif b ifs
+  unfolding within
+  endifs_step [] b h t n = some_is_none _ n
+  endifs_step (i ∷ is) b h t n = endif_step i.has_else b i.line is h t n
 
-int_step : (c : Bool) (o : Open) (ws : List Word) (w : Word) → Within o ws → TakesInt true o ws →
-    bytes_eq w.text (codes "INT") ≡ c →
-    let q = cond c (within false o) (inside (head_of w.text) (slots_of w.text) w.line (within true o)) in
-    q.fault ≡ None → Stands q (ws ++ w ∷ [])
-int_step true o ws w h m e n =
-    at_inside false o refl (m refl w ((bytes_eq-Decides w.text (codes "INT")).0 e)) (no_int o (ws ++ w ∷ []))
-int_step false o ws w h m e n = inside_step (head_of w.text) true o ws w h refl n
+-- at the place of an item
+module _ {o : Open} {ws : List Word} (h : Within o ws) (w : Word) where
+  if_step : (c b : Bool) → head_of w.text ≡ head.If → nat_lt (length o.ifs) MOST_OPEN_IFS ≡ c →
+      let q = cond c (within false (if_at o w.line)) (with_fault TooLarge w.line (within b o)) in
+      q.fault ≡ None → Stands q (ws ++ w ∷ [])
+  unfolding if_at
+  if_step true b t lt n =
+      at_inside false (if_at o w.line) refl
+      (grown (w ∷ []) h (if_closes o.ifs o.code h.inner w h.closes t (grind (arith, nat_tests))))
+      (no_int (if_at o w.line) (ws ++ w ∷ []))
+  if_step false b t lt n = some_is_none _ n
 
-item_step : (b : Bool) (o : Open) (ws : List Word) (w : Word) → Within o ws → TakesInt b o ws →
-    (at_place (item_place b) w.text w.line (within b o)).fault ≡ None →
-    Stands (at_place (item_place b) w.text w.line (within b o)) (ws ++ w ∷ [])
-unfolding within
-item_step true o ws w h m n = int_step (bytes_eq w.text (codes "INT")) o ws w h m refl n
-item_step false o ws w h m n = inside_step (head_of w.text) false o ws w h refl n
+  inside_step : (x : Head) (b : Bool) → head_of w.text ≡ x →
+      let q = inside x (slots_of w.text) w.line (within b o) in q.fault ≡ None → Stands q (ws ++ w ∷ [])
+  unfolding within if_at
+  inside_step head.Return b t n = end_step o.functions o.name o.line o.code ws w o.ifs b h t n
+  inside_step head.If b t n = if_step (nat_lt (length o.ifs) MOST_OPEN_IFS) b t refl n
+  inside_step head.Else b t n = elses_step o.functions o.name o.line o.code ws w o.ifs b h t n
+  inside_step head.Endif b t n = endifs_step o.functions o.name o.line o.code ws w o.ifs b h t n
+  inside_step (head.Start k) b t n =
+      stands_at _ _ _ (after_slot-going k w.line (slots_of w.text) (item_place b) [] no_parts o)
+      (going_stands (slots_of w.text) {first = w} {done = []}
+      (record { front = ws; words_are = refl; is_first = t; filled = λ after rest g. g; inside = h }))
+  inside_step _ b t n = some_is_none _ n
 
-settled_step : (v : Result ItemParts CodeFault) (s : WordSlot) (k : Keyword) (slots : List WordSlot) (q : ItemParts)
-    (o : Open) (first : Word) (done ws : List Word) (w : Word) → Begun k (s ∷ slots) q o first done ws →
-    word_in s w.text q ≡ v →
-    (after_part v k first.line w.line (going k first.line (s ∷ slots) q o)).fault ≡ None →
-    Stands (after_part v k first.line w.line (going k first.line (s ∷ slots) q o)) (ws ++ w ∷ [])
-unfolding going within
-settled_step (Err x) s k slots q o first done ws w h e n = some_is_none _ n
-settled_step (Ok r) s k slots q o first done ws w h e n =
-    stands_at _ _ _ (after_slot-going k first.line slots (Words k s first.line) slots r o)
-    (going_stands slots k r o first (done ++ w ∷ []) (ws ++ w ∷ [])
-    (begun_more k s slots q r o first done ws (w ∷ []) h (inl (w, refl, given_fits s w.text q r e))))
+  int_step : (c : Bool) → TakesInt true o ws → bytes_eq w.text (codes "INT") ≡ c →
+      let q = cond c (within false o) (inside (head_of w.text) (slots_of w.text) w.line (within true o)) in
+      q.fault ≡ None → Stands q (ws ++ w ∷ [])
+  int_step true m e n =
+      at_inside false o refl (m refl w ((bytes_eq-Decides w.text (codes "INT")).0 e)) (no_int o (ws ++ w ∷ []))
+  int_step false m e n = inside_step (head_of w.text) true refl n
 
-slot_step : (b : Bool) (s : WordSlot) (k : Keyword) (slots : List WordSlot) (q : ItemParts) (o : Open) (first : Word)
-    (done ws : List Word) (w : Word) → Begun k (s ∷ slots) q o first done ws → begins_list s w.text ≡ b →
-    let p = cond b (in_elements k first.line w.line slots (record q { numbers = [] }) o)
-    (after_part (word_in s w.text q) k first.line w.line (going k first.line (s ∷ slots) q o)) in
-    p.fault ≡ None → Stands p (ws ++ w ∷ [])
-slot_step true s k slots q o first done ws w h e n =
-    let found = list_begins s w.text e in
-    at_elements k slots q [] o first w done [] refl ws refl
-    (subst (λ z. Begun k (z ∷ slots) q o first done ws) found.0 h) found.1 tt (lit≤ tt)
-slot_step false s k slots q o first done ws w h e n =
-    settled_step (word_in s w.text q) s k slots q o first done ws w h refl n
+  item_step : (b : Bool) → TakesInt b o ws →
+      let q = at_place (item_place b) w.text w.line (within b o) in q.fault ≡ None → Stands q (ws ++ w ∷ [])
+  unfolding within
+  item_step true m n = int_step (bytes_eq w.text (codes "INT")) m refl n
+  item_step false m n = inside_step (head_of w.text) false refl n
 
-in_slot_step : (s : WordSlot) (k : Keyword) (slots : List WordSlot) (q : ItemParts) (o : Open) (first : Word)
-    (done ws : List Word) (w : Word) → Begun k (s ∷ slots) q o first done ws →
-    (in_slot s k first.line w.text w.line (going k first.line (s ∷ slots) q o)).fault ≡ None →
-    Stands (in_slot s k first.line w.text w.line (going k first.line (s ∷ slots) q o)) (ws ++ w ∷ [])
-unfolding going within in_elements
-in_slot_step s k slots q o first done ws w h n =
-    slot_step (begins_list s w.text) s k slots q o first done ws w h refl n
+-- in an instruction
+module _ {k : Keyword} {s : WordSlot} {slots : List WordSlot} {q : ItemParts} {o : Open} {first : Word}
+    {done ws : List Word} (h : Begun k (s ∷ slots) q o first done ws) (w : Word) where
+  settled_step : (v : Result ItemParts CodeFault) → word_in s w.text q ≡ v →
+      let p = after_part v k first.line w.line (going k first.line (s ∷ slots) q o) in
+      p.fault ≡ None → Stands p (ws ++ w ∷ [])
+  unfolding going within
+  settled_step (Err x) e n = some_is_none _ n
+  settled_step (Ok r) e n =
+      stands_at _ _ _ (after_slot-going k first.line slots (Words k s first.line) slots r o)
+      (going_stands slots (begun_more (w ∷ []) h (inl (w, refl, given_fits s w.text q r e))))
+
+  slot_step : (b : Bool) → begins_list s w.text ≡ b →
+      let p = cond b (in_elements k first.line w.line slots (record q { numbers = [] }) o)
+      (after_part (word_in s w.text q) k first.line w.line (going k first.line (s ∷ slots) q o)) in
+      p.fault ≡ None → Stands p (ws ++ w ∷ [])
+  slot_step true e n =
+      let found = list_begins s w.text e in
+      at_elements k slots q [] o first w done [] refl ws refl
+      (subst (λ z. Begun k (z ∷ slots) q o first done ws) found.0 h) found.1 tt (lit≤ tt)
+  slot_step false e n = settled_step (word_in s w.text q) refl n
+
+  in_slot_step :
+      let p = in_slot s k first.line w.text w.line (going k first.line (s ∷ slots) q o) in
+      p.fault ≡ None → Stands p (ws ++ w ∷ [])
+  unfolding going within in_elements
+  in_slot_step n = slot_step (begins_list s w.text) refl n
 
 -- the words of an open list, with one more
 pub record Listed (k : Keyword) (slots : List WordSlot) (before : ItemParts) (ns : List ℤ) (o : Open)
@@ -576,99 +510,68 @@ abbrev elements : Keyword → List WordSlot → ItemParts → List ℤ → Open 
 elements k slots before ns o first opened =
     in_elements k first.line opened.line slots (record before { numbers = ns }) o
 
-room_step : (b : Bool) (m : ℤ) (k : Keyword) (slots : List WordSlot) (before : ItemParts) (ns : List ℤ) (o : Open)
-    (first opened : Word) (done inner ws : List Word) (w : Word) →
-    Listed k slots before ns o first opened done inner ws → value_of before.kind w.text ≡ Some m →
-    nat_lt (length ns) MOST_ELEMENTS ≡ b →
-    let q = cond b (elements k slots before (ns ++ m ∷ []) o first opened)
-    (with_fault TooLarge w.line (elements k slots before ns o first opened)) in
-    q.fault ≡ None → Stands q (ws ++ w ∷ [])
-room_step false m k slots before ns o first opened done inner ws w h e lt n = some_is_none _ n
-room_step true m k slots before ns o first opened done inner ws w h e lt n =
-    at_elements k slots before (ns ++ m ∷ []) o first opened done (inner ++ w ∷ []) refl h.front
-    (ap (λ z. z ++ w ∷ []) h.words_are ∙ append_assoc h.front (opened ∷ inner) (w ∷ [])) h.begun h.is_opened
-    (AreValues-then before.kind ns inner m w h.numbers e) (more_room ns m lt)
+module _ {k : Keyword} {slots : List WordSlot} {before : ItemParts} {ns : List ℤ} {o : Open} {first opened : Word}
+    {done inner ws : List Word} (h : Listed k slots before ns o first opened done inner ws) (w : Word) where
+  all_words : ws ++ w ∷ [] ≡ h.front ++ opened ∷ (inner ++ w ∷ [])
+  all_words = ap (λ z. z ++ w ∷ []) h.words_are ∙ append_assoc h.front (opened ∷ inner) (w ∷ [])
 
-element_step : (v : Option ℤ) (k : Keyword) (slots : List WordSlot) (before : ItemParts) (ns : List ℤ) (o : Open)
-    (first opened : Word) (done inner ws : List Word) (w : Word) →
-    Listed k slots before ns o first opened done inner ws → value_of before.kind w.text ≡ v →
-    (one_element v w.text w.line (elements k slots before ns o first opened)).fault ≡ None →
-    Stands (one_element v w.text w.line (elements k slots before ns o first opened)) (ws ++ w ∷ [])
-unfolding in_elements within
-element_step None k slots before ns o first opened done inner ws w h e n = some_is_none _ n
-element_step (Some m) k slots before ns o first opened done inner ws w h e n =
-    room_step (nat_lt (length ns) MOST_ELEMENTS) m k slots before ns o first opened done inner ws w h e refl n
+  room_step : (b : Bool) (m : ℤ) → value_of before.kind w.text ≡ Some m → nat_lt (length ns) MOST_ELEMENTS ≡ b →
+      let q = cond b (elements k slots before (ns ++ m ∷ []) o first opened)
+      (with_fault TooLarge w.line (elements k slots before ns o first opened)) in
+      q.fault ≡ None → Stands q (ws ++ w ∷ [])
+  room_step false m e lt n = some_is_none _ n
+  room_step true m e lt n =
+      at_elements k slots before (ns ++ m ∷ []) o first opened done (inner ++ w ∷ []) refl h.front all_words h.begun
+      h.is_opened (AreValues-then before.kind ns inner m w h.numbers e) (more_room ns m lt)
 
-list_step : (b : Bool) (k : Keyword) (slots : List WordSlot) (before : ItemParts) (ns : List ℤ) (o : Open)
-    (first opened : Word) (done inner ws : List Word) (w : Word) →
-    Listed k slots before ns o first opened done inner ws → bytes_eq w.text (codes ")") ≡ b →
-    let q = cond b (going k first.line slots (record before { numbers = ns }) o)
-    (one_element (value_of before.kind w.text) w.text w.line (elements k slots before ns o first opened)) in
-    q.fault ≡ None → Stands q (ws ++ w ∷ [])
-list_step true k slots before ns o first opened done inner ws w h e n =
-    let r : ItemParts = record before { numbers = ns } in
-    subst (Stands (going k first.line slots r o))
-    (sym (ap (λ z. z ++ w ∷ []) h.words_are ∙ append_assoc h.front (opened ∷ inner) (w ∷ [])))
-    (going_stands slots k r o first (done ++ opened ∷ (inner ++ w ∷ [])) (h.front ++ opened ∷ (inner ++ w ∷ []))
-    (begun_more k Values slots before r o first done h.front (opened ∷ (inner ++ w ∷ [])) h.begun
-    (inr (
-      refl,
-      (
-        opened,
-        w,
-        inner,
-        ns,
-        refl,
-        h.is_opened,
-        (bytes_eq-Decides w.text (codes ")")).0 e,
-        h.few,
-        h.numbers,
-        refl,
-      ),
-    ))))
-list_step false k slots before ns o first opened done inner ws w h e n =
-    element_step (value_of before.kind w.text) k slots before ns o first opened done inner ws w h refl n
+  element_step : (v : Option ℤ) → value_of before.kind w.text ≡ v →
+      let q = one_element v w.text w.line (elements k slots before ns o first opened) in
+      q.fault ≡ None → Stands q (ws ++ w ∷ [])
+  unfolding in_elements within
+  element_step None e n = some_is_none _ n
+  element_step (Some m) e n = room_step (nat_lt (length ns) MOST_ELEMENTS) m e refl n
 
-in_list_step : (k : Keyword) (slots : List WordSlot) (before : ItemParts) (ns : List ℤ) (o : Open) (first opened : Word)
-    (done inner ws : List Word) (w : Word) →
-    Listed k slots before ns o first opened done inner ws →
-    (in_list k first.line w.text w.line (elements k slots before ns o first opened)).fault ≡ None →
-    Stands (in_list k first.line w.text w.line (elements k slots before ns o first opened)) (ws ++ w ∷ [])
-unfolding in_elements within
-in_list_step k slots before ns o first opened done inner ws w h n =
-    let r : ItemParts = record before { numbers = ns } in
-    let same = after_slot-going k first.line slots (Elements k first.line opened.line) slots r o in
-    let p : Parse = elements k slots before ns o first opened in
-    let other : Parse = one_element (value_of before.kind w.text) w.text w.line p in
-    let c : in_list k first.line w.text w.line p
-    ≡ cond (bytes_eq w.text (codes ")")) (going k first.line slots r o) other =
-    ap (λ z. cond (bytes_eq w.text (codes ")")) z other) same in
-    stands_at _ _ _ c
-    (list_step (bytes_eq w.text (codes ")")) k slots before ns o first opened done inner ws w h refl
-    (sym (ap (λ (x : Parse). x.fault) c) ∙ n))
+  list_step : (b : Bool) → bytes_eq w.text (codes ")") ≡ b →
+      let q = cond b (going k first.line slots (record before { numbers = ns }) o)
+      (one_element (value_of before.kind w.text) w.text w.line (elements k slots before ns o first opened)) in
+      q.fault ≡ None → Stands q (ws ++ w ∷ [])
+  list_step true e n =
+      let closed = (bytes_eq-Decides w.text (codes ")")).0 e in
+      subst (Stands (going k first.line slots (record before { numbers = ns }) o)) (sym all_words)
+      (going_stands slots (begun_more (opened ∷ (inner ++ w ∷ [])) h.begun
+      (inr (refl, (opened, w, inner, ns, refl, h.is_opened, closed, h.few, h.numbers, refl)))))
+  list_step false e n = element_step (value_of before.kind w.text) refl n
+
+  in_list_step :
+      let q = in_list k first.line w.text w.line (elements k slots before ns o first opened) in
+      q.fault ≡ None → Stands q (ws ++ w ∷ [])
+  unfolding in_elements within
+  in_list_step n =
+      let r : ItemParts = record before { numbers = ns } in
+      let same = after_slot-going k first.line slots (Elements k first.line opened.line) slots r o in
+      let p : Parse = elements k slots before ns o first opened in
+      let other : Parse = one_element (value_of before.kind w.text) w.text w.line p in
+      let c = ap (λ z. cond (bytes_eq w.text (codes ")")) z other) same in
+      stands_at _ _ _ c (list_step (bytes_eq w.text (codes ")")) refl (sym (ap (λ (x : Parse). x.fault) c) ∙ n))
 
 -- one word more, if it makes no fault
 step_sound : (p : Parse) (ws : List Word) (w : Word) → Stands p ws → (take w.text w.line p).fault ≡ None →
     Stands (take w.text w.line p) (ws ++ w ∷ [])
 unfolding between naming_at within going in_elements
 step_sound p ws w (at_outside fs e g) f =
-    from_state p (between fs) w _ e refl f (λ n. outside_step (head_of w.text) fs ws w g refl n)
-step_sound p ws w (at_name fs u func e k t g r) f =
-    from_state p (naming_at fs func.line) w _ e refl f (λ n. naming_step fs u ws func w k t g r n)
-step_sound p ws w (at_inside b o e h m) f =
-    from_state p (within b o) w _ e refl f (λ n. item_step b o ws w h m n)
-step_sound p ws w (at_words k s slots q o first done e h) f =
-    from_state p (going k first.line (s ∷ slots) q o) w _ e refl f
-    (λ n. in_slot_step s k slots q o first done ws w h n)
+    from_state w e refl f (λ n. outside_step (head_of w.text) w g refl n)
+step_sound p ws w (at_name fs u func e k t g r) f = from_state w e refl f (λ n. naming_step func w k t g r n)
+step_sound p ws w (at_inside b o e h m) f = from_state w e refl f (λ n. item_step h w b m n)
+step_sound p ws w (at_words k s slots q o first done e h) f = from_state w e refl f (λ n. in_slot_step h w n)
 step_sound p ws w (at_elements k slots before ns o first opened done inner e u c h t m le) f =
-    from_state p (elements k slots before ns o first opened) w _ e refl f
-    (λ n. in_list_step k slots before ns o first opened done inner ws w
-    (record { front = u; words_are = c; begun = h; is_opened = t; numbers = m; few = le }) n)
+    let listed : Listed k slots before ns o first opened done inner ws =
+    record { front = u; words_are = c; begun = h; is_opened = t; numbers = m; few = le } in
+    from_state w e refl f (λ n. in_list_step listed w n)
 
 pub run_sound : (more : List Word) (p : Parse) (ws : List Word) → Stands p ws → (run p more).fault ≡ None →
     Stands (run p more) (ws ++ more)
 unfolding run
-run_sound [] p ws h k = subst (Stands p) (sym (add_nil ws)) h
+run_sound [] p ws h k = subst (Stands p) (sym (append-nil ws)) h
 run_sound (w ∷ more) p ws h k =
     subst (Stands (run (take w.text w.line p) more)) (append_assoc ws (w ∷ []) more)
     (run_sound more (take w.text w.line p) (ws ++ w ∷ [])

@@ -1,23 +1,16 @@
 -- The table of words, looked up among the words of a length, and by what a word begins.
 use Rattle.std.proofs.Common.{◌≡◌, ◌<◌, ℕ, Bool, true, false, ◌==◌, List, [], ◌∷◌, length, cond, refl, ap}
 use Rattle.std.proofs.Common.{◌∙◌, sym, arith}
-use Rattle.std.specs.Prelude.{nat_lt}
-use Rattle.std.specs.List.{AllByRecursion}
+use Rattle.std.specs.Prelude.{map, nat_lt}
 use Rattle.std.specs.Str.{bytes_eq}
 use Rattle.std.proofs.lemmas.Bool.Decides.{nat_tests}
 use Rattle.std.proofs.lemmas.Slice.Eq.{bytes_eq-Decides}
+use Rattle.std.proofs.lemmas.Bool.{false_from_ne_true, true≢false}
 use Rattle.vcode_reader.specs.declared.head.Head.{Head}
 use Rattle.vcode_reader.specs.declared.head.Head.TheVariants.{Other}
 use Rattle.vcode_reader.specs.declared.keyword.WordSlot.{WordSlot}
 use Rattle.vcode_reader.specs.Heads.{Row, rows, look_up, rows_with, head_of_length, head_longer, head_slots, head_of}
 use Rattle.vcode_reader.specs.Heads.{slots_of}
-
-not_true : (b : Bool) → (b ≡ true → ⊥) → b ≡ false
-not_true true h = absurd (h refl)
-not_true false h = refl
-
-true_not_false : true ≡ false → ⊥
-true_not_false h = cc
 
 -- a row of another length has another word
 look_up-row : {A : Type 0} (column : Row → A) (missing : A) (is_such : ℕ → Bool) (r : Row) (rest rs : List Row)
@@ -30,7 +23,7 @@ look_up-row column missing is_such r rest rs word false h e same =
     let length_of : bytes_eq word r.word ≡ true → is_such (length word) ≡ is_such (length r.word) =
     λ t. ap (λ z. is_such (length z)) ((bytes_eq-Decides word r.word).0 t) in
     let other : bytes_eq word r.word
-    ≡ false = not_true (bytes_eq word r.word) (λ t. true_not_false (sym h ∙ (length_of t ∙ e))) in
+    ≡ false = false_from_ne_true (bytes_eq word r.word) (λ t. true≢false (sym h ∙ (length_of t ∙ e))) in
     same ∙ sym (ap (λ b. cond b (column r) (look_up column missing rs word)) other)
 
 look_up-rows_with : {A : Type 0} (column : Row → A) (missing : A) (is_such : ℕ → Bool) (rs : List Row)
@@ -60,185 +53,25 @@ no_word word h = among_length 0 word h
 
 -- ---- what follows a word, by what the word begins
 
-abbrev agrees : Row → Type 0
-agrees r = r.slots ≡ head_slots r.head
+abbrev by_head : Row → List WordSlot
+by_head r = head_slots r.head
 
-look_up-slots : (rs : List Row) (word : List ℕ) → AllByRecursion agrees rs →
+look_up-slots : (rs : List Row) (word : List ℕ) → map (λ (r : Row). r.slots) rs ≡ map by_head rs →
     look_up (λ (r : Row). r.slots) [] rs word ≡ head_slots (look_up (λ (r : Row). r.head) Other rs word)
 look_up-slots [] word h = refl
 look_up-slots (r ∷ rs) word h =
-    chosen (bytes_eq word r.word) r _ _ h.0 (look_up-slots rs word h.1)
+    let first : r.slots ≡ by_head r = cc in
+    let rest : map (λ (r : Row). r.slots) rs ≡ map by_head rs = cc in
+    chosen (bytes_eq word r.word) r _ _ first (look_up-slots rs word rest)
   where
-    chosen : (t : Bool) (r : Row) (slots : List WordSlot) (head : Head) → agrees r → slots ≡ head_slots head →
-        cond t r.slots slots ≡ head_slots (cond t r.head head)
+    chosen : (t : Bool) (r : Row) (slots : List WordSlot) (head : Head) → r.slots ≡ by_head r →
+        slots ≡ head_slots head → cond t r.slots slots ≡ head_slots (cond t r.head head)
     chosen true r slots head e f = e
     chosen false r slots head e f = f
 
-rows_agree : AllByRecursion agrees rows
+rows_agree : map (λ (r : Row). r.slots) rows ≡ map by_head rows
 unfolding rows
-rows_agree = (
-  refl,
-  (
-    refl,
-    (
-      refl,
-      (
-        refl,
-        (
-          refl,
-          (
-            refl,
-            (
-              refl,
-              (
-                refl,
-                (
-                  refl,
-                  (
-                    refl,
-                    (
-                      refl,
-                      (
-                        refl,
-                        (
-                          refl,
-                          (
-                            refl,
-                            (
-                              refl,
-                              (
-                                refl,
-                                (
-                                  refl,
-                                  (
-                                    refl,
-                                    (
-                                      refl,
-                                      (
-                                        refl,
-                                        (
-                                          refl,
-                                          (
-                                            refl,
-                                            (
-                                              refl,
-                                              (
-                                                refl,
-                                                (
-                                                  refl,
-                                                  (
-                                                    refl,
-                                                    (
-                                                      refl,
-                                                      (
-                                                        refl,
-                                                        (
-                                                          refl,
-                                                          (
-                                                            refl,
-                                                            (
-                                                              refl,
-                                                              (
-                                                                refl,
-                                                                (
-                                                                  refl,
-                                                                  (
-                                                                    refl,
-                                                                    (
-                                                                      refl,
-                                                                      (
-                                                                        refl,
-                                                                        (
-                                                                          refl,
-                                                                          (
-                                                                            refl,
-                                                                            (
-                                                                              refl,
-                                                                              (
-                                                                                refl,
-                                                                                (
-                                                                                  refl,
-                                                                                  (
-                                                                                    refl,
-                                                                                    (
-                                                                                      refl,
-                                                                                      (
-                                                                                        refl,
-                                                                                        (
-                                                                                          refl,
-                                                                                          (
-                                                                                            refl,
-                                                                                            (
-                                                                                              refl,
-                                                                                              (
-                                                                                                refl,
-                                                                                                (
-                                                                                                  refl,
-                                                                                                  (
-                                                                                                    refl,
-                                                                                                    (
-                                                                                                      refl,
-                                                                                                      (
-                                                                                                        refl,
-                                                                                                        (
-                                                                                                          refl,
-                                                                                                          (
-                                                                                                            refl,
-                                                                                                            tt,
-                                                                                                          ),
-                                                                                                        ),
-                                                                                                      ),
-                                                                                                    ),
-                                                                                                  ),
-                                                                                                ),
-                                                                                              ),
-                                                                                            ),
-                                                                                          ),
-                                                                                        ),
-                                                                                      ),
-                                                                                    ),
-                                                                                  ),
-                                                                                ),
-                                                                              ),
-                                                                            ),
-                                                                          ),
-                                                                        ),
-                                                                      ),
-                                                                    ),
-                                                                  ),
-                                                                ),
-                                                              ),
-                                                            ),
-                                                          ),
-                                                        ),
-                                                      ),
-                                                    ),
-                                                  ),
-                                                ),
-                                              ),
-                                            ),
-                                          ),
-                                        ),
-                                      ),
-                                    ),
-                                  ),
-                                ),
-                              ),
-                            ),
-                          ),
-                        ),
-                      ),
-                    ),
-                  ),
-                ),
-              ),
-            ),
-          ),
-        ),
-      ),
-    ),
-  ),
-)
+rows_agree = refl
 
 pub slots_by_head : (word : List ℕ) → slots_of word ≡ head_slots (head_of word)
 unfolding slots_of head_of

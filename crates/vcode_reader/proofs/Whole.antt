@@ -23,17 +23,9 @@ of_int_by : (slots : List WordSlot) (k : Keyword) (l : ℕ) (p : Parse) → p.fa
     take (codes "INT") l (after_slot k l slots p)
     ≡ after_slot k l [] (record p { parts = record p.parts { kind = scalar.Int } })
 unfolding take
-of_int_by [] k l p good one = cc
 of_int_by (slot.Int ∷ []) k l p good one = rw good refl
 of_int_by (slot.Kind ∷ []) k l p good one = rw good refl
-of_int_by (slot.Values ∷ []) k l p good one = cc
-of_int_by (slot.Count entries ∷ []) k l p good one = cc
-of_int_by (slot.Callee ∷ []) k l p good one = cc
-of_int_by (slot.Int ∷ s ∷ slots) k l p good one = cc
-of_int_by (slot.Kind ∷ s ∷ slots) k l p good one = cc
-of_int_by (slot.Values ∷ s ∷ slots) k l p good one = cc
-of_int_by (slot.Count entries ∷ s ∷ slots) k l p good one = cc
-of_int_by (slot.Callee ∷ s ∷ slots) k l p good one = cc
+of_int_by _ k l p good one = cc
 
 -- an instruction of one kind, which is INT
 pub of_int : (k : Keyword) (l : ℕ) (p : Parse) → p.fault ≡ None → takes_kind k ≡ true →

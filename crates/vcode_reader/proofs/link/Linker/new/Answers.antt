@@ -1,5 +1,6 @@
 use Rattle.std.proofs.Common.{◌≡◌, ◌+◌, ◌-◌, ◌∙◌, sym, subst, arith, rules}
-use Rattle.vcode_reader.proofs.Callees.{Finds, finds_more, position_from-zero}
+use Rattle.std.proofs.lemmas.Iterator.Adapters.{position_from-zero}
+use Rattle.vcode_reader.proofs.Callees.{Finds, finds_more}
 use Rattle.vcode_reader.proofs.link.Linker.new.Goals as goal
 
 pub loop-place-preserved : goal.loop-place-preserved
@@ -21,5 +22,5 @@ invariant_of-result g c =
       past = search rules;
       found = λ name.
           subst (λ z. Finds c.args.functions.now z c.loop-place.places) none c.loop-place.invariant.found name
-          ∙ position_from-zero _ c.args.functions.now;
+          ∙ sym (position_from-zero _ c.args.functions.now);
     }

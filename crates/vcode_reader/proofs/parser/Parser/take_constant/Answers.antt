@@ -3,24 +3,17 @@ use Rattle.std.specs.Prelude.{FitsSigned}
 use Rattle.std.proofs.lemmas.Result.{on_ok_weaker}
 use Rattle.vcode_reader.specs.declared.keyword.Keyword.TheVariants.{Const}
 use Rattle.vcode_reader.specs.Keywords.{keyword_slots}
-use Rattle.vcode_reader.specs.Parsing.{Parse, after_slot, take}
+use Rattle.vcode_reader.specs.Parsing.{after_slot, take}
 use Rattle.vcode_reader.specs.Room.{FitsParse}
 use Rattle.vcode_reader.proofs.Whole.{of_number}
+use Rattle.vcode_reader.proofs.States.{parse_state}
 use Rattle.vcode_reader.proofs.parser.Parser.take_constant.Goals as goal
 
 pub add_instruction-requires-clause-fits : goal.add_instruction-requires-clause-fits
 add_instruction-requires-clause-fits g c =
     let inside = c.self.inside in
-    let p : Parse = record {
-      functions = inside.functions.items;
-      place = inside.place;
-      name = inside.name;
-      line = inside.line;
-      draft = inside.draft;
-      slots = inside.slots;
-      parts = inside.parts;
-      fault = inside.fault;
-    } in
+    let p = parse_state inside.functions.items inside.place inside.name inside.line inside.draft inside.slots
+    inside.parts inside.fault in
     let good : p.fault ≡ None = rw (← c.self.view_is) at c.requires.good in
     let fits : FitsSigned w64 c.args.number = search rules in
     let pushed : c.push.new.self ≡ c.args.number ∷ [] =
@@ -35,16 +28,8 @@ add_instruction-requires-clause-fits g c =
 pub returns : goal.returns
 returns g c =
     let inside = c.self.inside in
-    let p : Parse = record {
-      functions = inside.functions.items;
-      place = inside.place;
-      name = inside.name;
-      line = inside.line;
-      draft = inside.draft;
-      slots = inside.slots;
-      parts = inside.parts;
-      fault = inside.fault;
-    } in
+    let p = parse_state inside.functions.items inside.place inside.name inside.line inside.draft inside.slots
+    inside.parts inside.fault in
     let good : p.fault ≡ None = rw (← c.self.view_is) at c.requires.good in
     let fits : FitsSigned w64 c.args.number = search rules in
     let pushed : c.push.new.self ≡ c.args.number ∷ [] =

@@ -1,3 +1,4 @@
+-- The callee at a place: none past the functions or past the lines, and else the one that is held there.
 use Rattle.std.proofs.Common.{◌∙◌, ap, sym}
 use Rattle.std.specs.Bool.{then_some}
 use Rattle.std.specs.Prelude.{nat_lt}

@@ -2,7 +2,7 @@ use Rattle.std.proofs.Common.{◌∙◌, Ok, ap, sym, subst}
 use Rattle.vcode_base.specs.TextAnswers.{Fails}
 use Rattle.vcode_reader.specs.Reading.{ReaderState, outcome}
 use Rattle.vcode_reader.specs.Trees.{Program}
-use Rattle.vcode_reader.proofs.Bodies.{few_outcome, proper_outcome}
+use Rattle.vcode_reader.proofs.Bodies.{of_outcome}
 use Rattle.vcode_reader.proofs.Fed.{answer_ok, answer_err}
 use Rattle.vcode_reader.proofs.Sizes.{end_fits}
 use Rattle.vcode_reader.proofs.reader.CodeReader.finish.Goals as goal
@@ -15,14 +15,14 @@ outcome-requires g c =
 pub new-requires-clause-proper_bodies : goal.new-requires-clause-proper_bodies
 new-requires-clause-proper_bodies g c =
     let inside = c.self.inside in
-    proper_outcome inside.scanner inside.first_line inside.size inside.failed c.in-Ok.functions.items
-    c.self.invariant c.if-self.false c.in-Ok.ensures
+    (of_outcome inside.scanner inside.first_line inside.size inside.failed c.in-Ok.functions.items
+    c.self.invariant c.if-self.false c.in-Ok.ensures).1
 
 pub new-requires-clause-few : goal.new-requires-clause-few
 new-requires-clause-few g c =
     let inside = c.self.inside in
-    few_outcome inside.scanner inside.first_line inside.size inside.failed c.in-Ok.functions.items
-    c.self.invariant c.if-self.false c.in-Ok.ensures
+    (of_outcome inside.scanner inside.first_line inside.size inside.failed c.in-Ok.functions.items
+    c.self.invariant c.if-self.false c.in-Ok.ensures).0
 
 pub returns-in-Err-clause-answer : goal.returns-in-Err-clause-answer
 returns-in-Err-clause-answer g c =

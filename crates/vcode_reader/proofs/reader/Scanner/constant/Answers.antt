@@ -1,3 +1,4 @@
+-- A constant of one number: its words fit, and reading them at once gives what reading each of them does.
 use Rattle.std.proofs.Common.{◌≡◌, ◌∙◌, ◌-◌, ℕ, ℤ, List, [], None, Some, codes, drop, rules, subst, sym, to_z-of_z, w64}
 use Rattle.std.proofs.Common.{take as take_front}
 use Rattle.std.specs.Prelude.{FitsSigned}
@@ -5,22 +6,17 @@ use Rattle.vcode_reader.specs.declared.keyword.Keyword.TheVariants.{Const}
 use Rattle.vcode_reader.specs.Ahead.{begun}
 use Rattle.vcode_reader.specs.Keywords.{keyword_slots}
 use Rattle.vcode_reader.specs.Numbers.{number_of}
-use Rattle.vcode_reader.specs.Parsing.{Parse, after_slot, take}
+use Rattle.vcode_reader.specs.Parsing.{after_slot, take}
 use Rattle.vcode_reader.specs.Room.{FitsText}
-use Rattle.vcode_reader.specs.Scan.{Scan}
 use Rattle.vcode_reader.proofs.Earlier.{front_read}
 use Rattle.vcode_reader.proofs.Whole.{int_passed, of_number}
+use Rattle.vcode_reader.proofs.States.{scan_state}
 use Rattle.vcode_reader.proofs.reader.Scanner.constant.Goals as goal
 
 pub take_constant-requires-clause-fits : goal.take_constant-requires-clause-fits
 take_constant-requires-clause-fits g c =
     let inside = c.self.inside in
-    let s : Scan Parse = record {
-      found = inside.parser;
-      line = inside.line;
-      word = inside.word.items;
-      comment = inside.comment;
-    } in
+    let s = scan_state inside.parser inside.line inside.word.items inside.comment in
     let none : inside.comment ≡ None = rw (← c.self.view_is) at c.requires.text in
     let empty : inside.word.items ≡ [] = rw (← c.self.view_is) at c.requires.word in
     let good : inside.parser.fault ≡ None = rw (← c.self.view_is) at c.requires.good in
@@ -42,12 +38,7 @@ take_constant-requires-clause-fits g c =
 pub returns-clause-same : goal.returns-clause-same
 returns-clause-same g c =
     let inside = c.self.inside in
-    let s : Scan Parse = record {
-      found = inside.parser;
-      line = inside.line;
-      word = inside.word.items;
-      comment = inside.comment;
-    } in
+    let s = scan_state inside.parser inside.line inside.word.items inside.comment in
     let none : inside.comment ≡ None = rw (← c.self.view_is) at c.requires.text in
     let empty : inside.word.items ≡ [] = rw (← c.self.view_is) at c.requires.word in
     let fits : FitsSigned w64 c.in-Some.number = search rules in

@@ -1,21 +1,16 @@
 use Rattle.std.proofs.Common.{◌≡◌, [], None, codes}
 use Rattle.vcode_reader.specs.Ahead.{begun}
-use Rattle.vcode_reader.specs.Parsing.{Parse, take}
+use Rattle.vcode_reader.specs.Parsing.{take}
 use Rattle.vcode_reader.specs.Room.{FitsText}
-use Rattle.vcode_reader.specs.Scan.{Scan}
 use Rattle.vcode_reader.proofs.Earlier.{front_read}
 use Rattle.vcode_reader.proofs.Pieces.{passes_word}
+use Rattle.vcode_reader.proofs.States.{scan_state}
 use Rattle.vcode_reader.proofs.reader.Scanner.of_int.Goals as goal
 
 pub take_of_int-requires-clause-fits : goal.take_of_int-requires-clause-fits
 take_of_int-requires-clause-fits g c =
     let inside = c.self.inside in
-    let s : Scan Parse = record {
-      found = inside.parser;
-      line = inside.line;
-      word = inside.word.items;
-      comment = inside.comment;
-    } in
+    let s = scan_state inside.parser inside.line inside.word.items inside.comment in
     let none : inside.comment ≡ None = rw (← c.self.view_is) at c.requires.text in
     let empty : inside.word.items ≡ [] = rw (← c.self.view_is) at c.requires.word in
     let fits : FitsText (begun c.args.keyword s) c.args.text.now = rw (← c.self.view_is) at c.requires.fits in
@@ -26,12 +21,7 @@ take_of_int-requires-clause-fits g c =
 pub returns-clause-same : goal.returns-clause-same
 returns-clause-same g c =
     let inside = c.self.inside in
-    let s : Scan Parse = record {
-      found = inside.parser;
-      line = inside.line;
-      word = inside.word.items;
-      comment = inside.comment;
-    } in
+    let s = scan_state inside.parser inside.line inside.word.items inside.comment in
     let none : inside.comment ≡ None = rw (← c.self.view_is) at c.requires.text in
     let empty : inside.word.items ≡ [] = rw (← c.self.view_is) at c.requires.word in
     rw (← c.self.view_is, c.in_ok-take_of_int.ensures) (passes_word take (begun c.args.keyword s) c.args.text.now

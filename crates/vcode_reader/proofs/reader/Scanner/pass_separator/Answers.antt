@@ -1,18 +1,13 @@
 use Rattle.std.proofs.Common.{◌≡◌, ◌∙◌, [], None, length, vec_len, arith, sym}
-use Rattle.vcode_reader.specs.Parsing.{Parse, take}
-use Rattle.vcode_reader.specs.Scan.{Scan}
+use Rattle.vcode_reader.specs.Parsing.{take}
 use Rattle.vcode_reader.proofs.Pieces.{is_none, no_bytes, passes_blank, passes_feed, some_bytes}
+use Rattle.vcode_reader.proofs.States.{scan_state}
 use Rattle.vcode_reader.proofs.reader.Scanner.pass_separator.Goals as goal
 
 pub returns-then-byte-eq32-clause-same : goal.returns-then-byte-eq32-clause-same
 returns-then-byte-eq32-clause-same g c =
     let inside = c.self.inside in
-    let s : Scan Parse = record {
-      found = inside.parser;
-      line = inside.line;
-      word = inside.word.items;
-      comment = inside.comment;
-    } in
+    let s = scan_state inside.parser inside.line inside.word.items inside.comment in
     let len : length inside.word.items ≡ vec_len inside.word = omega arith in
     let empty : inside.word.items ≡ [] =
     no_bytes inside.word.items (rw len (sym c.is_empty-2.ensures ∙ c.if-not-is_empty.false)) in
@@ -24,12 +19,7 @@ returns-then-byte-eq32-clause-same g c =
 pub returns-then-byte-eq10-clause-same : goal.returns-then-byte-eq10-clause-same
 returns-then-byte-eq10-clause-same g c =
     let inside = c.self.inside in
-    let s : Scan Parse = record {
-      found = inside.parser;
-      line = inside.line;
-      word = inside.word.items;
-      comment = inside.comment;
-    } in
+    let s = scan_state inside.parser inside.line inside.word.items inside.comment in
     let len : length inside.word.items ≡ vec_len inside.word = omega arith in
     let empty : inside.word.items ≡ [] =
     no_bytes inside.word.items (rw len (sym c.is_empty-2.ensures ∙ c.if-not-is_empty.false)) in
