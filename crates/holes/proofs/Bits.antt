@@ -18,10 +18,8 @@ length-words each place (suc len) = omega (arith, length-words each (place + 1) 
 pub word_in : (each : ℕ → Bool) (place len word : ℕ) → word < len →
     is_free (words_from each place len) word ≡ each (place + word)
 word_in each place zero word lt = absurd (omega arith)
-word_in each place (suc len) zero lt = ap each (let e : place ≡ place + 0 = omega arith in e)
-word_in each place (suc len) (suc word) lt =
-    word_in each (place + 1) len word (omega arith) ∙ ap each (let e : (place + 1) + word ≡ place + suc word = omega
-    arith in e)
+word_in each place (suc len) zero lt = grind arith
+word_in each place (suc len) (suc word) lt = grind (arith, word_in each (place + 1) len word (omega arith))
 
 -- the same words, by two functions that say which are free
 pub same_words_from : (first second : ℕ → Bool) (a b len : ℕ) →
@@ -35,10 +33,7 @@ same_words_from first second a b len same =
 
 pub words_from-add : (each : ℕ → Bool) (place m n : ℕ) →
     words_from each place (m + n) ≡ words_from each place m ++ words_from each (place + m) n
-words_from-add each place zero n =
-    let a : 0 + n ≡ n = omega arith in
-    let b : place + 0 ≡ place = omega arith in
-    ap (words_from each place) a ∙ ap (λ p. words_from each p n) (sym b)
+words_from-add each place zero n = grind arith
 words_from-add each place (suc m) n =
     let a : suc m + n ≡ suc (m + n) = omega arith in
     let b : (place + 1) + m ≡ place + suc m = omega arith in
@@ -60,13 +55,11 @@ mask from to = bit_and ((2 ^ 64 - 1) * 2 ^ from % 2 ^ 64) ((2 ^ 64 - 1) / 2 ^ (6
 
 mask_inside : (from to word : ℕ) → from < to → to ≤ 64 → from ≤ word → word < to → bit_at (mask from to) word ≡ 1
 mask_inside from to word some within ge lt =
-    let back : 64 - (64 - to) ≡ to = omega arith in
-    omega (
+    grind (
       arith,
       bit_at_and ((2 ^ 64 - 1) * 2 ^ from % 2 ^ 64) ((2 ^ 64 - 1) / 2 ^ (64 - to)) word,
-      ap (λ n. bit_at n word) (ones_shl 64 from (omega arith)),
-      ap (λ n. bit_at n word) (ones_shr 64 (64 - to) (omega arith)),
-      ap (λ n. bit_at (2 ^ n - 1) word) back,
+      ones_shl 64 from (omega arith),
+      ones_shr 64 (64 - to) (omega arith),
       bit_at_mask_inside from 64 word ge (omega arith),
       bit_at_ones to word lt,
     )
@@ -92,45 +85,30 @@ mask_outside from to word some within out =
     ]
 
 mask-lt : (from to : ℕ) → mask from to < 2 ^ 64
-mask-lt from to =
-    omega (
-      arith,
-      and_le_r ((2 ^ 64 - 1) * 2 ^ from % 2 ^ 64) ((2 ^ 64 - 1) / 2 ^ (64 - to)),
-      shr_le (2 ^ 64 - 1) (64 - to),
-    )
+mask-lt from to = omega (arith, and_le_r, shr_le)
 
 same_set : (a b word : ℕ) → bit_at a word ≡ bit_at b word → is_set a word ≡ is_set b word
 same_set a b word e = ap (λ n. eqb n 1) e
 
 pub or_mask_inside : (bits from to word : ℕ) → from < to → to ≤ 64 → from ≤ word → word < to →
     is_set (bit_or bits (mask from to)) word ≡ true
-or_mask_inside bits from to word some within ge lt =
-    let one : bit_at (bit_or bits (mask from to)) word ≡ 1 =
-    omega (
-      arith,
-      bit_at_or bits (mask from to) word,
-      mask_inside from to word some within ge lt,
-      bit_at-lt bits word,
-    ) in
-    ap (λ n. eqb n 1) one
+or_mask_inside bits from to word some within ge lt = grind (arith, mask, bit_at_or, mask_inside, bit_at-lt)
 
 pub or_mask_outside : (bits from to word : ℕ) → from < to → to ≤ 64 → (word < from) ⊎ (to ≤ word) →
     is_set (bit_or bits (mask from to)) word ≡ is_set bits word
-or_mask_outside bits from to word some within out =
-    same_set (bit_or bits (mask from to)) bits word
-    (omega (arith, bit_at_or bits (mask from to) word, mask_outside from to word some within out))
+or_mask_outside bits from to word some within out = grind (arith, same_set, mask, bit_at_or, mask_outside)
 
 pub and_mask_inside : (bits from to word : ℕ) → from < to → to ≤ 64 → from ≤ word → word < to →
     is_set (bit_and bits (bit_not w64 (mask from to))) word ≡ false
 and_mask_inside bits from to word some within ge lt =
-    let none : bit_at (bit_and bits (bit_not w64 (mask from to))) word ≡ 0 =
-    omega (
+    grind (
       arith,
+      mask from to,
       bit_at_and bits (bit_not w64 (mask from to)) word,
       bit_at_not w64 (mask from to) word (mask-lt from to) (omega arith),
+      mask-lt from to,
       mask_inside from to word some within ge lt,
-    ) in
-    ap (λ n. eqb n 1) none
+    )
 
 pub and_mask_outside : (bits from to word : ℕ) → from < to → to ≤ 64 → word < 64 → (word < from) ⊎ (to ≤ word) →
     is_set (bit_and bits (bit_not w64 (mask from to))) word ≡ is_set bits word

@@ -1,6 +1,6 @@
 -- How many holes there are after a range was taken or given, by the words right before and right after it.
 use Rattle.std.proofs.Common.{◌≡◌, ℕ, ◌+◌, ◌-◌, ◌<◌, ◌≤◌, Bool, true, false, not, ◌&&◌, cond, eqb, List, [], ◌∷◌, ◌++◌}
-use Rattle.std.proofs.Common.{length, take, drop, refl, sym, ◌∙◌, ap, arith, zero, suc}
+use Rattle.std.proofs.Common.{length, take, drop, refl, arith, zero, suc}
 use Rattle.std.specs.Prelude.{replicate}
 use Rattle.std.proofs.lemmas.Bool.{ne_eqb}
 use Rattle.std.proofs.lemmas.List.{get_or-drop}
@@ -18,7 +18,7 @@ count_behind (true ∷ free) = omega arith
 
 count_free : (before : Bool) (n : ℕ) → hole_count_after before (replicate (suc n) true) ≡ cond before 0 1
 count_free true n = hole_count_after_true-true n
-count_free false n = omega (arith, hole_count_after_true-true n)
+count_free false n = grind (arith, hole_count_after_true-true)
 
 last_same : (before value : Bool) (n : ℕ) → last_of before (replicate (suc n) value) ≡ value
 last_same before value zero = refl
@@ -38,37 +38,13 @@ count_set : (free : List Bool) (place len : ℕ) (value : Bool) → hole_count (
     hole_count_after false (take place free)
     + hole_count_after (last_of false (take place free)) (replicate (suc len) value)
     + hole_count_after value (drop (place + suc len) free)
-count_set free place len value =
-    let front = take place free in
-    let range = replicate (suc len) value in
-    let back = drop (place + suc len) free in
-    let last : last_of false (front ++ range) ≡ value =
-    last-append false front range ∙ last_same (last_of false front) value len in
-    omega (
-      arith,
-      hole_count_after-append false (front ++ range) back,
-      hole_count_after-append false front range,
-      ap (λ b. hole_count_after b back) last,
-    )
+count_set free place len value = grind (arith, last-append, last_same, hole_count_after-append)
 
 -- of a range that is free, and of another
 count_both : (free : List Bool) (place len : ℕ) → hole_count (set_range free place (suc len) true)
     + cond (is_free free (place + suc len)) 1 0
     ≡ hole_count (set_range free place (suc len) false) + cond (last_of false (take place free)) 0 1
-count_both free place len =
-    let back = drop (place + suc len) free in
-    let first : is_free back 0 ≡ is_free free (place + suc len) =
-    get_or-drop (place + suc len) free 0 false ∙ ap (is_free free)
-    (let e : (place + suc len) + 0 ≡ place + suc len = omega arith in e) in
-    omega (
-      arith,
-      count_set free place len true,
-      count_set free place len false,
-      count_free (last_of false (take place free)) len,
-      hole_count_after-false (last_of false (take place free)) (suc len),
-      count_behind back,
-      ap {B = ℕ} (λ (b : Bool). cond b 1 0) first,
-    )
+count_both free place len = grind (arith, get_or-drop, count_set, count_free, hole_count_after-false, count_behind)
 
 pub hole_count_changed : (free : List Bool) (place len : ℕ) → 1 ≤ len →
     hole_count (set_range free place len true) + cond (is_free free (place + len)) 1 0
@@ -82,27 +58,18 @@ last_none (suc place) = last_none place
 
 count_all_from : (place n : ℕ) →
     hole_count (replicate place false ++ replicate n true) ≡ hole_count_after false (replicate n true)
-count_all_from place n =
-    omega (
-      arith,
-      hole_count_after-append false (replicate place false) (replicate n true),
-      hole_count_after-false false place,
-      ap (λ b. hole_count_after b (replicate n true)) (last_none place),
-    )
+count_all_from place n = grind (arith, hole_count_after-append, hole_count_after-false, last_none)
 
 count_some : (n : ℕ) → hole_count_after false (replicate n true) ≡ cond (eqb n 0) 0 1
 count_some zero = refl
-count_some (suc n) =
-    count_free false n ∙ sym (ap (λ (b : Bool). cond b 0 1) (ne_eqb (suc n) 0 (λ e. absurd (omega arith))))
+count_some (suc n) = cc (count_free false n, ne_eqb (suc n) 0 (λ e. absurd (omega arith)))
 
 pub hole_count_from : (place size : ℕ) → hole_count (free_from place size) ≡ cond (eqb (size - place) 0) 0 1
-hole_count_from place size = count_all_from place (size - place) ∙ count_some (size - place)
+hole_count_from place size = omega (arith, count_all_from, count_some)
 
 -- One word more.
 pub next_word : (each : ℕ → Bool) (n : ℕ) → words_from each 0 (n + 1) ≡ words_from each 0 n ++ each n ∷ []
-next_word each n =
-    words_from-add each 0 n 1
-    ∙ ap (λ k. words_from each 0 n ++ each k ∷ []) (let e : 0 + n ≡ n = omega arith in e)
+next_word each n = grind (arith, words_from-add)
 
 one_more : (before free : Bool) → hole_count_after before (free ∷ []) ≡ from_bool (free && not before)
 one_more true true = refl
@@ -112,13 +79,10 @@ one_more false false = refl
 
 pub count_next : (each : ℕ → Bool) (n : ℕ) → hole_count (words_from each 0 (n + 1))
     ≡ hole_count (words_from each 0 n) + from_bool (each n && not (last_of false (words_from each 0 n)))
-count_next each n =
-    ap hole_count (next_word each n)
-    ∙ (hole_count_after-append false (words_from each 0 n) (each n ∷ [])
-    ∙ ap (λ k. hole_count (words_from each 0 n) + k) (one_more (last_of false (words_from each 0 n)) (each n)))
+count_next each n = grind (arith, next_word, hole_count_after-append, one_more)
 
 pub last_next : (each : ℕ → Bool) (n : ℕ) → last_of false (words_from each 0 (n + 1)) ≡ each n
-last_next each n = ap (last_of false) (next_word each n) ∙ last-append false (words_from each 0 n) (each n ∷ [])
+last_next each n = grind (arith, next_word, last-append)
 
 pub at_most_one : (b : Bool) → from_bool b ≤ 1
 at_most_one true = omega arith

@@ -1,16 +1,16 @@
 -- Going down a tree to the lowest fit.
 use Rattle.std.proofs.Common.{◌≡◌, ℕ, true, false, drop, sym, inl, inr, ◌+◌, ◌-◌, ◌*◌, ◌/◌, ◌^◌, ◌<◌, ◌≤◌}
-use Rattle.std.proofs.Common.{refl, max, List, ◌++◌, length, ◌∙◌, ap, arith, Bool, zero, suc}
+use Rattle.std.proofs.Common.{refl, max, List, ◌++◌, length, ◌∙◌, ap, arith, Bool, zero, suc, rules}
 use Rattle.std.specs.Prelude.{replicate}
 use Rattle.holes.specs.declared.summary.Summary.{Summary}
 use Rattle.holes.specs.FreeWords.{is_free, front_run, widest}
 use Rattle.holes.specs.Tree.{words_between, words_of, node_at, back_run, lowest_fit, all_free, summary}
-use Rattle.holes.specs.Tree.{word_at, words_from, leaf_count, NoneBelow, IsTree, IsNode, IsRight, IsAlike}
+use Rattle.holes.specs.Tree.{word_at, leaf_count, NoneBelow, IsTree, IsNode, IsRight, IsAlike}
 use Rattle.holes.specs.Tree.{width, first_leaf, node_words}
 use Rattle.holes.proofs.Runs.{word_run, fit_before, front-le-length, front_all, lowest_front, widest-le-length}
 use Rattle.holes.proofs.Runs.{back-le-length, widest-append, lowest-append_left, lowest-append_between}
 use Rattle.holes.proofs.Runs.{lowest-append_right}
-use Rattle.std.proofs.lemmas.Bool.{cases_lt, cases_Bool, false≢true}
+use Rattle.std.proofs.lemmas.Bool.{false≢true}
 use Rattle.holes.proofs.Bits.{word_in}
 use Rattle.holes.proofs.Bitmaps.{widest_none, summary_all}
 use Rattle.holes.proofs.Nodes.{word_past, length-node_words, left_part, right_part, span, alike_words, same_block}
@@ -29,47 +29,34 @@ pub record At (bits : List ℕ) (nodes : List Summary) (len index place wide : �
   pub mixed : all_free (node_words bits tree.height height index) ≡ false
 
 root_node : (top : ℕ) → IsNode top top 1
-root_node top = record { depth = 0; at = omega arith; from = omega arith; to = omega arith }
+root_node top = grind arith
 
-root_right : (bits : List ℕ) (nodes : List Summary) (tree : IsTree bits nodes) →
-    IsRight bits nodes tree.height tree.height 1
-root_right bits nodes tree = elim (tree.is_right tree.height 1 (root_node tree.height)) [
-  | inl r ↦ r
-  | inr h ↦
-      let low = h.low in
-      let tall = h.tall in
-      absurd (omega arith)
-]
+root_right : {bits : List ℕ} {nodes : List Summary} (tree : IsTree bits nodes) → IsRight bits nodes tree.height
+    tree.height 1
+root_right tree = grind arith
 
 root_words : (bits : List ℕ) (top : ℕ) → length bits ≡ 4 * 2 ^ top → node_words bits top top 1 ≡ words_of bits
 unfolding node_words
-root_words bits top count =
-    let front : 256 * (first_leaf top 1 - 2 ^ top) ≡ 0 = omega (arith, first_leaf-root top, width-pow top) in
-    let all : 256 * width top ≡ 64 * length bits = omega (arith, width-pow top) in
-    ap (λ p. words_from (word_at bits) p (256 * width top)) front ∙ ap (words_from (word_at bits) 0) all
+root_words bits top count = grind (arith, first_leaf-root, width-pow)
 
-pub root_is : (bits : List ℕ) (nodes : List Summary) → IsTree bits nodes → node_at nodes 1 ≡ summary (words_of bits)
-root_is bits nodes tree = root_right bits nodes tree ∙ ap summary (root_words bits tree.height tree.bitmaps)
+pub root_is : {bits : List ℕ} {nodes : List Summary} → IsTree bits nodes → node_at nodes 1 ≡ summary (words_of bits)
+root_is {bits} tree = cc (root_right tree, root_words bits tree.height tree.bitmaps)
 
-pub root_longest : (bits : List ℕ) (nodes : List Summary) → IsTree bits nodes →
-    (node_at nodes 1).longest ≡ widest (words_of bits)
-root_longest bits nodes tree = ap (λ (node : Summary). node.longest) (root_is bits nodes tree)
+pub root_longest : {bits : List ℕ} {nodes : List Summary} → IsTree bits nodes → (node_at nodes 1).longest ≡ widest
+    (words_of bits)
+root_longest tree = grind (arith, root_is tree)
 
 -- words that are all free have their lowest fit at their front
 front_fit : (len : ℕ) (words : List Bool) → all_free words ≡ true → len ≤ widest words → lowest_fit len words ≡ 0
-front_fit len words all fits =
-    lowest_front len words (omega (arith, front_all words all, widest-le-length words))
+front_fit len words all fits = omega (arith, lowest_front, front_all, widest-le-length)
 
-pub root_whole : (bits : List ℕ) (nodes : List Summary) (len : ℕ) → IsTree bits nodes →
-    len ≤ (node_at nodes 1).longest → (node_at nodes 1).whole ≡ true → 0 ≡ lowest_fit len (words_of bits)
-root_whole bits nodes len tree fits whole =
-    sym (front_fit len (words_of bits) (sym (ap (λ (node : Summary). node.whole) (root_is bits nodes tree)) ∙ whole)
-    (omega (arith, root_longest bits nodes tree)))
+pub root_whole : {bits : List ℕ} {nodes : List Summary} (len : ℕ) → IsTree bits nodes → len ≤ (node_at nodes
+    1).longest → (node_at nodes 1).whole ≡ true → 0 ≡ lowest_fit len (words_of bits)
+root_whole len tree fits whole = grind (arith, front_fit, root_is, root_longest)
 
-pub at_root : (bits : List ℕ) (nodes : List Summary) (len : ℕ) → IsTree bits nodes →
-    len ≤ (node_at nodes 1).longest → (node_at nodes 1).whole ≡ false →
-    At bits nodes len 1 0 (leaf_count nodes * 256)
-at_root bits nodes len tree fits mixed =
+pub at_root : {bits : List ℕ} {nodes : List Summary} {len : ℕ} → IsTree bits nodes → len ≤ (node_at nodes 1).longest →
+    (node_at nodes 1).whole ≡ false → At bits nodes len 1 0 (leaf_count nodes * 256)
+at_root {bits} {len} tree fits mixed =
     let top = tree.height in
     let words = root_words bits top tree.bitmaps in
     record {
@@ -78,9 +65,9 @@ at_root bits nodes len tree fits mixed =
       is_node = root_node top;
       place_is = omega (arith, first_leaf-root top, width-pow top);
       wide_is = omega (arith, width-pow top, tree.node_count);
-      fits = omega (arith, root_longest bits nodes tree, ap widest words);
+      fits = grind arith;
       lowest = omega (arith, ap (lowest_fit len) words);
-      mixed = ap all_free words ∙ (sym (ap (λ (node : Summary). node.whole) (root_is bits nodes tree)) ∙ mixed);
+      mixed = grind arith;
     }
 
 -- words that are all free, or all not free, aren't both
@@ -88,16 +75,15 @@ not_alike : (words : List Bool) (n : ℕ) (value : Bool) → 1 ≤ n → words �
     1 ≤ widest words → ⊥
 not_alike words n true some is mixed fits =
     false≢true (sym mixed ∙ (ap all_free is ∙ ap (λ (s : Summary). s.whole) (summary_all n true some)))
-not_alike words n false some is mixed fits = absurd (omega (arith, ap widest is, widest_none n))
+not_alike words n false some is mixed fits = grind (arith, widest_none)
 
 -- the parts of a node whose words aren't alike are right
-part_is : (bits : List ℕ) (nodes : List Summary) (tree : IsTree bits nodes) (lower index part : ℕ) →
-    IsNode tree.height (suc lower) index → IsNode tree.height lower part →
-    first_leaf (suc lower) index ≤ first_leaf lower part →
-    first_leaf lower part < first_leaf (suc lower) index + width (suc lower) →
-    1 ≤ widest (node_words bits tree.height (suc lower) index) →
-    all_free (node_words bits tree.height (suc lower) index) ≡ false → IsRight bits nodes tree.height lower part
-part_is bits nodes tree lower index part is part_node from to fits mixed = elim (tree.is_right lower part part_node) [
+part_is : {bits : List ℕ} {nodes : List Summary} (tree : IsTree bits nodes) {lower index part : ℕ} → IsNode
+    tree.height (suc lower) index → IsNode tree.height lower part → first_leaf (suc lower) index ≤ first_leaf lower
+    part → first_leaf lower part < first_leaf (suc lower) index + width (suc lower) → 1 ≤ widest (node_words bits
+    tree.height (suc lower) index) → all_free (node_words bits tree.height (suc lower) index) ≡ false → IsRight bits
+    nodes tree.height lower part
+part_is {bits} tree {lower} {index} {part} is part_node from to fits mixed = elim (tree.is_right lower part part_node) [
   | inl r ↦ r
   | inr h ↦
       let low = h.low in
@@ -105,7 +91,7 @@ part_is bits nodes tree lower index part is part_node from to fits mixed = elim 
       let alike : IsAlike bits tree.height (first_leaf (suc lower) index) =
       (h.alike.0, (λ word at. h.alike.1 word (at ∙ sym block))) in
       absurd (not_alike (node_words bits tree.height (suc lower) index) (256 * width (suc lower)) alike.0
-      (omega (arith, width-pos (suc lower))) (alike_words bits tree.height (suc lower) index alike is (omega arith))
+      (omega (arith, width-pos (suc lower))) (alike_words bits alike is (omega arith))
       mixed fits)
 ]
 
@@ -126,17 +112,16 @@ pub record Below (bits : List ℕ) (nodes : List Summary) (len index place wide 
       (node_at nodes (2 * index)).back + (node_at nodes (2 * index + 1)).front < len →
       At bits nodes len (2 * index + 1) (place + wide / 2) (wide / 2)
 
-below_at : (bits : List ℕ) (nodes : List Summary) (tree : IsTree bits nodes) (len lower index place wide : ℕ) →
-    1 ≤ len → IsNode tree.height (suc lower) index →
-    place ≡ 256 * (first_leaf (suc lower) index - 2 ^ tree.height) → wide ≡ 256 * width (suc lower) →
-    len ≤ widest (node_words bits tree.height (suc lower) index) →
-    lowest_fit len (words_of bits) ≡ place + lowest_fit len (node_words bits tree.height (suc lower) index) →
-    all_free (node_words bits tree.height (suc lower) index) ≡ false → Below bits nodes len index place wide
+below_at : {bits : List ℕ} {nodes : List Summary} (tree : IsTree bits nodes) {len : ℕ} (lower : ℕ) {index place wide :
+    ℕ} → 1 ≤ len → IsNode tree.height (suc lower) index → place ≡ 256 * (first_leaf (suc lower) index - 2 ^
+    tree.height) → wide ≡ 256 * width (suc lower) → len ≤ widest (node_words bits tree.height (suc lower) index) →
+    lowest_fit len (words_of bits) ≡ place + lowest_fit len (node_words bits tree.height (suc lower) index) → all_free
+    (node_words bits tree.height (suc lower) index) ≡ false → Below bits nodes len index place wide
 unfolding first_leaf width
-below_at bits nodes tree len lower index place wide one is place_is wide_is at_fits at_lowest mixed =
+below_at {bits} {nodes} tree {len} lower {index} {place} {wide} one is place_is wide_is at_fits at_lowest mixed =
     let top = tree.height in
-    let left_node = left_part top lower index is in
-    let right_node = right_part top lower index is in
+    let left_node = left_part is in
+    let right_node = right_part is in
     let left_span = span top lower (2 * index) left_node in
     let right_span = span top lower (2 * index + 1) right_node in
     let next = first_leaf-next lower (2 * index) in
@@ -144,14 +129,12 @@ below_at bits nodes tree len lower index place wide one is place_is wide_is at_f
     let right_words = node_words bits top lower (2 * index + 1) in
     let left_len : length left_words ≡ 256 * width lower = length-node_words bits top lower (2 * index) in
     let right_len : length right_words ≡ 256 * width lower = length-node_words bits top lower (2 * index + 1) in
-    let words = node_words-split bits top lower index is in
+    let words = node_words-split bits lower is in
     let some_fit : 1 ≤ widest (node_words bits top (suc lower) index) = omega arith in
     let left_is : IsRight bits nodes top lower (2 * index) =
-    part_is bits nodes tree lower index (2 * index) is left_node (omega arith) (omega (arith, width-pos lower)) some_fit
-    mixed in
+    grind (arith, part_is, width-pos) in
     let right_is : IsRight bits nodes top lower (2 * index + 1) =
-    part_is bits nodes tree lower index (2 * index + 1) is right_node (omega (arith, next))
-    (omega (arith, next, width-pos lower)) some_fit mixed in
+    grind (arith, part_is, width-pos) in
     let half : wide / 2 ≡ 256 * width lower = omega (arith, wide_is) in
     let back : (node_at nodes (2 * index)).back ≡ back_run left_words = ap (λ (n : Summary). n.back) left_is in
     let front : (node_at nodes (2 * index + 1)).front ≡ front_run right_words =
@@ -160,36 +143,15 @@ below_at bits nodes tree len lower index place wide one is place_is wide_is at_f
     ap (λ (n : Summary). n.longest) left_is in
     let whole : (node_at nodes (2 * index)).whole ≡ all_free left_words = ap (λ (n : Summary). n.whole) left_is in
     let fits : len ≤ max (max (widest left_words) (widest right_words)) (back_run left_words + front_run right_words) =
-    omega (arith, at_fits, ap widest words, widest-append left_words right_words) in
+    grind (arith, widest-append) in
     let lowest : lowest_fit len (words_of bits) ≡ place + lowest_fit len (left_words ++ right_words) =
     at_lowest ∙ ap (λ (list : List Bool). place + lowest_fit len list) words in
     record {
-      some = omega (arith, (inner top (suc lower) index is (omega arith)).0);
+      some = omega (arith, (inner is (omega arith)).0);
       back_within = omega (arith, back, back-le-length left_words);
-      small = omega (
-        arith,
-        back,
-        front,
-        back-le-length left_words,
-        front-le-length right_words,
-        next,
-        left_span.from,
-        right_span.to,
-        tree.small,
-        tree.bitmaps,
-      );
-      next_small = omega (
-        arith,
-        place_is,
-        next,
-        right_span.to,
-        left_span.from,
-        tree.small,
-        tree.bitmaps,
-      );
-      whole = λ wide_enough is_whole.
-          let at_front = front_fit len left_words (sym whole ∙ is_whole) (omega arith) in
-          omega (arith, lowest, lowest-append_left len left_words right_words one (omega arith), at_front);
+      small = omega (arith, back-le-length, front-le-length);
+      next_small = grind arith;
+      whole = grind (arith, front_fit, lowest-append_left);
       left = λ wide_enough not_whole. record {
         tree = tree;
         height = lower;
@@ -197,15 +159,10 @@ below_at bits nodes tree len lower index place wide one is place_is wide_is at_f
         place_is = place_is;
         wide_is = half;
         fits = omega arith;
-        lowest = lowest ∙ ap (λ n. place + n) (lowest-append_left len left_words right_words one (omega arith));
+        lowest = omega (arith, lowest-append_left);
         mixed = sym whole ∙ not_whole;
       };
-      between = λ short meets. omega (
-        arith,
-        lowest,
-        lowest-append_between len left_words right_words (omega arith) (omega arith),
-        back-le-length left_words,
-      );
+      between = omega (arith, lowest-append_between, back-le-length);
       right = λ short apart. record {
         tree = tree;
         height = lower;
@@ -213,15 +170,8 @@ below_at bits nodes tree len lower index place wide one is place_is wide_is at_f
         place_is = omega (arith, place_is, next, left_span.from);
         wide_is = half;
         fits = omega arith;
-        lowest = omega (
-          arith,
-          lowest,
-          lowest-append_right len left_words right_words (omega arith) (omega arith),
-        );
-        mixed = elim (cases_Bool (all_free right_words)) [
-          | inl all ↦ absurd (omega (arith, front_all right_words all, widest-le-length right_words))
-          | inr some ↦ some
-        ];
+        lowest = omega (arith, lowest-append_right);
+        mixed = grind (arith, front_all, widest-le-length);
       };
     }
 
@@ -233,16 +183,13 @@ below_height : (height : ℕ) (bits : List ℕ) (nodes : List Summary) (tree : I
     all_free (node_words bits tree.height height index) ≡ false → index < leaf_count nodes →
     Below bits nodes len index place wide
 unfolding first_leaf
-below_height zero bits nodes tree len index place wide one is place_is wide_is fits lowest mixed lt =
-    absurd (omega (arith, (span tree.height 0 index is).from, tree.node_count))
+below_height zero bits nodes tree len index place wide one is place_is wide_is fits lowest mixed lt = grind arith
 below_height (suc lower) bits nodes tree len index place wide one is place_is wide_is fits lowest mixed lt =
-    below_at bits nodes tree len lower index place wide one is place_is wide_is fits lowest mixed
+    search (rules, below_at)
 
-pub below : (bits : List ℕ) (nodes : List Summary) (len index place wide : ℕ) → 1 ≤ len →
-    At bits nodes len index place wide → index < leaf_count nodes → Below bits nodes len index place wide
-below bits nodes len index place wide one at lt =
-    below_height at.height bits nodes at.tree len index place wide one at.is_node at.place_is at.wide_is at.fits
-    at.lowest at.mixed lt
+pub below : {bits : List ℕ} {nodes : List Summary} {len index place wide : ℕ} → 1 ≤ len → At bits nodes len index
+    place wide → index < leaf_count nodes → Below bits nodes len index place wide
+below one at lt = search (rules, below_height)
 
 -- what is known at a leaf, whose bitmaps begin at an index
 pub record AtLeaf (bits : List ℕ) (len first : ℕ) : Type 0 where
@@ -270,29 +217,20 @@ at_leaf_node bits nodes tree len zero index place first e is place_is fits lowes
 at_leaf_node bits nodes tree len (suc height) index place first e is place_is fits lowest first_is =
     absurd (omega arith)
 
-pub at_leaf : (bits : List ℕ) (nodes : List Summary) (len index place wide first : ℕ) →
-    At bits nodes len index place wide → leaf_count nodes ≤ index → first ≡ (index - leaf_count nodes) * 4 →
-    AtLeaf bits len first
-at_leaf bits nodes len index place wide first at ge is =
+pub at_leaf : {bits : List ℕ} {nodes : List Summary} {len index place wide first : ℕ} → At bits nodes len index place
+    wide → leaf_count nodes ≤ index → first ≡ (index - leaf_count nodes) * 4 → AtLeaf bits len first
+at_leaf {bits} {nodes} {len} {index} {place} {first} at ge is =
     let tree = at.tree in
     at_leaf_node bits nodes tree len at.height index place first
-    (leaf_height tree.height at.height index at.is_node (omega (arith, tree.node_count))) at.is_node at.place_is at.fits
+    (leaf_height at.is_node (omega (arith, tree.node_count))) at.is_node at.place_is at.fits
     at.lowest (omega (arith, tree.node_count))
 
 -- The lowest free word.
 word_free : (bits : List ℕ) (word : ℕ) → word < 64 * length bits → is_free (words_of bits) word ≡ word_at bits word
-word_free bits word lt =
-    word_in (word_at bits) 0 (64 * length bits) word lt ∙ ap (word_at bits)
-    (let e : 0 + word ≡ word = omega arith in e)
+word_free bits word lt = grind (arith, word_in)
 
 not_free : (bits : List ℕ) (word : ℕ) → front_run (drop word (words_of bits)) < 1 → word_at bits word ≡ false
-not_free bits word none = elim (cases_lt word (64 * length bits)) [
-  | inl lt ↦ elim (cases_Bool (word_at bits word)) [
-    | inl free ↦ absurd (omega (arith, word_run (words_of bits) word (word_free bits word lt ∙ free)))
-    | inr taken ↦ taken
-  ]
-  | inr past ↦ word_past bits word past
-]
+not_free bits word none = grind (arith, word_run, word_free, word_past)
 
 pub none_below_lowest : (bits : List ℕ) → NoneBelow bits (lowest_fit 1 (words_of bits))
-none_below_lowest bits word lt = not_free bits word (fit_before 1 word (words_of bits) lt)
+none_below_lowest bits word lt = grind (arith, not_free, fit_before)

@@ -2,7 +2,7 @@
 -- words.
 use Rattle.std.proofs.Math.Seq.{split_at}
 use Rattle.std.proofs.Common.{◌≡◌, ℕ, ◌+◌, ◌-◌, ◌<◌, ◌≤◌, max, Bool, true, false, List, [], ◌∷◌, ◌++◌, length}
-use Rattle.std.proofs.Common.{take, drop, get_or, refl, sym, ◌∙◌, ap, subst, inl, inr, arith, zero, suc}
+use Rattle.std.proofs.Common.{take, drop, get_or, refl, sym, ◌∙◌, ap, inl, inr, arith, zero, suc, rules}
 use Rattle.std.specs.Prelude.{replicate}
 use Rattle.std.proofs.lemmas.Bool.{cases_lt, false≢true}
 use Rattle.std.proofs.lemmas.List.{append_assoc, length-append, length-replicate, get_or-replicate}
@@ -71,7 +71,7 @@ apart_weaker to from size (hole ∷ holes) le a = (omega (arith, a.0), a.1, a.2,
 
 pub apart_front : (from size : ℕ) (xs ys : List Range) → AreApart from size (xs ++ ys) → AreApart from size xs
 apart_front from size [] ys a = tt
-apart_front from size (hole ∷ xs) ys a = (a.0, a.1, a.2, apart_front (hole.place + hole.len + 1) size xs ys a.3)
+apart_front from size (hole ∷ xs) ys a = grind (arith, apart_front (hole.place + hole.len + 1) size xs ys a.3)
 
 pub apart_back : (from size : ℕ) (xs ys : List Range) → AreApart from size (xs ++ ys) →
     AreApart (bound from xs) size ys
@@ -83,7 +83,7 @@ pub apart-append : (from size : ℕ) (xs ys : List Range) → AreApart from size
     AreApart from size (xs ++ ys)
 unfolding bound
 apart-append from size [] ys a b = b
-apart-append from size (hole ∷ xs) ys a b = (a.0, a.1, a.2, apart-append (hole.place + hole.len + 1) size xs ys a.3 b)
+apart-append from size (hole ∷ xs) ys a b = grind (arith, apart-append (hole.place + hole.len + 1) size xs ys a.3 b)
 
 -- The words of holes.
 pub words_from-append : (from size : ℕ) (xs ys : List Range) →
@@ -91,24 +91,25 @@ pub words_from-append : (from size : ℕ) (xs ys : List Range) →
 unfolding next_from words_before
 words_from-append from size [] ys = refl
 words_from-append from size (hole ∷ xs) ys =
-    let front = replicate (hole.place - from) false ++ replicate hole.len true in
-    ap (λ (rest : List Bool). front ++ rest) (words_from-append (hole.place + hole.len) size xs ys)
-    ∙ sym (append_assoc front (words_before (hole.place + hole.len) xs)
-    (words_from (next_from (hole.place + hole.len) xs) size ys))
+    grind (
+      arith,
+      append_assoc,
+      words_before,
+      words_from,
+      next_from,
+      words_from-append (hole.place + hole.len) size xs ys,
+    )
 
 pub length-words_before : (from to size : ℕ) (holes : List Range) → from ≤ to → AreApart to size holes →
     length (words_before from holes) + from ≡ next_from from holes
 unfolding next_from words_before
 length-words_before from to size [] le a = omega arith
 length-words_before from to size (hole ∷ holes) le a =
-    omega (
+    grind (
       arith,
-      a.0,
-      length-append (replicate (hole.place - from) false ++ replicate hole.len true)
-          (words_before (hole.place + hole.len) holes),
-      length-append (replicate (hole.place - from) false) (replicate hole.len true),
-      length-replicate (hole.place - from) false,
-      length-replicate hole.len true,
+      length-append,
+      words_before,
+      length-replicate,
       length-words_before (hole.place + hole.len) (hole.place + hole.len + 1) size holes (omega arith) a.3,
     )
 
@@ -116,15 +117,11 @@ pub length-words_from : (from to size : ℕ) (holes : List Range) → from ≤ t
     length (words_from from size holes) ≡ size - from
 length-words_from from to size [] le a = length-replicate (size - from) false
 length-words_from from to size (hole ∷ holes) le a =
-    omega (
+    grind (
       arith,
-      a.0,
-      a.2,
-      length-append (replicate (hole.place - from) false ++ replicate hole.len true)
-          (words_from (hole.place + hole.len) size holes),
-      length-append (replicate (hole.place - from) false) (replicate hole.len true),
-      length-replicate (hole.place - from) false,
-      length-replicate hole.len true,
+      length-append,
+      words_from,
+      length-replicate,
       length-words_from (hole.place + hole.len) (hole.place + hole.len + 1) size holes (omega arith) a.3,
     )
 
@@ -132,31 +129,37 @@ length-words_from from to size (hole ∷ holes) le a =
 pub words_from_later : (from to size : ℕ) (holes : List Range) → from ≤ to → StartsFrom to size holes →
     words_from from size holes ≡ replicate (to - from) false ++ words_from to size holes
 unfolding StartsFrom
-words_from_later from to size [] le starts =
-    ap (λ n. replicate n false) (let e : size - from ≡ (to - from) + (size - to) = omega arith in e) ∙ sym
-    (replicate-append-replicate (to - from) (size - to) false)
+words_from_later from to size [] le starts = grind (arith, replicate-append-replicate)
 words_from_later from to size (hole ∷ holes) le starts =
     let rest = words_from (hole.place + hole.len) size holes in
     let some = replicate (to - from) false in
     let more = replicate (hole.place - to) false in
     let len = replicate hole.len true in
-    ap (λ (xs : List Bool). xs ++ len ++ rest)
-    (ap (λ n. replicate n false) (let e : hole.place - from ≡ (to - from) + (hole.place - to) = omega arith in e) ∙
-    sym (replicate-append-replicate (to - from) (hole.place - to) false))
-    ∙ (ap (λ (xs : List Bool). xs ++ rest) (append_assoc some more len) ∙ append_assoc some (more ++ len) rest)
+    grind (
+      arith,
+      replicate-append-replicate (to - from) (hole.place - to) false,
+      append_assoc some more len,
+      append_assoc some (more ++ len) rest,
+    )
 
 -- a range in the middle
 set_range_mid : (front back : List Bool) (place len : ℕ) (old new : Bool) → length front ≡ place →
     set_range (front ++ (replicate len old ++ back)) place len new ≡ front ++ (replicate len new ++ back)
 set_range_mid front back place len old new at =
     let middle = replicate len old in
-    let whole = front ++ (middle ++ back) in
-    ap (λ (xs : List Bool). xs ++ replicate len new ++ drop (place + len) whole)
-    (take_at front (middle ++ back) place at)
-    ∙ (ap (λ (xs : List Bool). front ++ replicate len new ++ xs)
-    (ap (drop (place + len)) (sym (append_assoc front middle back)) ∙ drop_at (front ++ middle) back (place + len)
-    (omega (arith, length-append front middle, length-replicate len old)))
-    ∙ append_assoc front (replicate len new) back)
+    grind (
+      arith,
+      take_at front (middle ++ back) place at,
+      append_assoc front middle back,
+      drop_at (front ++ middle) back (place + len) (omega (
+        arith,
+        length-append front middle,
+        length-replicate len old,
+      )),
+      length-append front middle,
+      length-replicate len old,
+      append_assoc front (replicate len new) back,
+    )
 
 -- the words before a place after some holes
 front_of : List Range → ℕ → List Bool
@@ -166,25 +169,12 @@ length-front_of : (size place : ℕ) (xs : List Range) → AreApart 0 size xs �
     length (front_of xs place) ≡ place
 unfolding front_of
 length-front_of size place xs a le =
-    omega (
-      arith,
-      length-append (words_before 0 xs) (replicate (place - next_from 0 xs) false),
-      length-words_before 0
-          0 size xs (omega arith) a,
-      length-replicate (place - next_from 0 xs) false,
-    )
+    grind (arith, length-append, words_before, next_from, length-words_before, length-replicate)
 
 hole_between : (size : ℕ) (xs : List Range) (hole : Range) (ys : List Range) → words_from 0 size (xs ++ hole ∷ ys) ≡
     front_of xs hole.place ++ (replicate hole.len true ++ words_from (hole.place + hole.len) size ys)
 unfolding front_of
-hole_between size xs hole ys =
-    let before = words_before 0 xs in
-    let gap = replicate (hole.place - next_from 0 xs) false in
-    let len = replicate hole.len true in
-    let rest = words_from (hole.place + hole.len) size ys in
-    words_from-append 0 size xs (hole ∷ ys)
-    ∙ (ap (λ (zs : List Bool). before ++ zs) (append_assoc gap len rest) ∙ sym
-    (append_assoc before gap (len ++ rest)))
+hole_between size xs hole ys = grind (arith, words_before, next_from, words_from, words_from-append, append_assoc)
 
 no_hole_between : (size : ℕ) (xs : List Range) (place len : ℕ) (ys : List Range) → next_from 0 xs ≤ place →
     StartsFrom (place + len) size ys →
@@ -195,13 +185,14 @@ no_hole_between size xs place len ys le starts =
     let before = words_before 0 xs in
     let gap = replicate (place - from) false in
     let rest = words_from (place + len) size ys in
-    words_from-append 0 size xs ys
-    ∙ (ap (λ (zs : List Bool). before ++ zs)
-    (words_from_later from (place + len) size ys (omega arith) starts
-    ∙ (ap (λ (zs : List Bool). zs ++ rest) (ap (λ n. replicate n false) (let e : (place + len) - from ≡ (place - from)
-    + len = omega arith in e) ∙ sym (replicate-append-replicate (place - from) len false))
-    ∙ append_assoc gap (replicate len false) rest))
-    ∙ sym (append_assoc before gap (replicate len false ++ rest)))
+    grind (
+      arith,
+      words_from-append 0 size xs ys,
+      words_from_later from (place + len) size ys (omega arith) starts,
+      replicate-append-replicate (place - from) len false,
+      append_assoc gap (replicate len false) rest,
+      append_assoc before gap (replicate len false ++ rest),
+    )
 
 -- a hole more between holes, and a hole less
 pub words_given : (size : ℕ) (xs : List Range) (place len : ℕ) (ys : List Range) → AreApart 0 size xs →
@@ -209,27 +200,14 @@ pub words_given : (size : ℕ) (xs : List Range) (place len : ℕ) (ys : List Ra
     (xs ++ record { place = place; len = len } ∷ ys) ≡ set_range (words_from 0 size (xs ++ ys)) place len true
 words_given size xs place len ys a le starts =
     let rest = words_from (place + len) size ys in
-    hole_between size xs (record { place = place; len = len }) ys
-    ∙ sym (ap (λ (free : List Bool). set_range free place len true) (no_hole_between size xs place len ys le starts)
-    ∙ set_range_mid (front_of xs place) rest place len false true (length-front_of size place xs a le))
-
--- two holes that touch make the same words free as one
-pub fused_first : (from size place first second : ℕ) (ys : List Range) → words_from from size
-    (record { place = place; len = first + second } ∷ ys) ≡ words_from from size (record
-    { place = place; len = first } ∷ (record { place = place + first; len = second } ∷ ys))
-fused_first from size place first second ys =
-    let gap = replicate (place - from) false in
-    let one = replicate first true in
-    let two = replicate second true in
-    let rest = words_from (place + first + second) size ys in
-    ap (λ (n : ℕ). gap ++ replicate (first + second) true ++ words_from n size ys) (let e : place + (first + second) ≡
-    place + first + second = omega arith in e)
-    ∙ (append_assoc gap (replicate (first + second) true) rest
-    ∙ (ap (λ (zs : List Bool). gap ++ (zs ++ rest)) (sym (replicate-append-replicate first second true))
-    ∙ (ap (λ (zs : List Bool). gap ++ zs) (append_assoc one two rest)
-    ∙ (sym (append_assoc gap one (two ++ rest))
-    ∙ ap (λ (n : ℕ). gap ++ one ++ (replicate n false ++ two ++ rest))
-    (let e : 0 ≡ (place + first) - (place + first) = omega arith in e)))))
+    grind (
+      arith,
+      hole_between size xs (record { place = place; len = len }) ys,
+      no_hole_between size xs place len ys le starts,
+      set_range_mid (front_of xs place) rest place len false true
+          (length-front_of size place xs a le),
+      length-front_of size place xs a le,
+    )
 
 -- The word right after a hole isn't free.
 front_taken : (from size : ℕ) (holes : List Range) → AreApart (from + 1) size holes →
@@ -240,13 +218,7 @@ front_taken from size [] a = no_words (size - from)
     no_words zero = refl
     no_words (suc n) = refl
 front_taken from size (hole ∷ holes) a =
-    let gap = replicate (hole.place - from) false in
-    let len = replicate hole.len true in
-    let rest = words_from (hole.place + hole.len) size holes in
-    let some : 0 < length gap = omega (arith, a.0, length-replicate (hole.place - from) false) in
-    get_or_append_left (gap ++ len) rest false 0 (omega (arith, length-append gap len))
-    ∙ (get_or_append_left gap len false 0 some ∙ get_or-replicate (hole.place - from) 0 false false
-    (omega (arith, length-replicate (hole.place - from) false)))
+    grind (arith, words_from, length-replicate, get_or_append_left, length-append, get_or-replicate)
 
 count_behind_false : (n : ℕ) (free : List Bool) →
     hole_count_after false (replicate n false ++ free) ≡ hole_count_after false free
@@ -261,7 +233,7 @@ count_behind_true (suc n) free = count_behind_true n free
 count_of_hole : (n : ℕ) (free : List Bool) → 0 < n →
     hole_count_after false (replicate n true ++ free) ≡ 1 + hole_count_after true free
 count_of_hole zero free some = absurd (omega arith)
-count_of_hole (suc n) free some = ap (λ k. 1 + k) (count_behind_true n free)
+count_of_hole (suc n) free some = omega (arith, count_behind_true n free)
 
 -- what begins with a word that isn't free
 count_from_taken : (before : Bool) (free : List Bool) → is_free free 0 ≡ false →
@@ -283,19 +255,16 @@ hole_count-words_from from to size [] a = none (size - from)
     none zero = refl
     none (suc n) = none n
 hole_count-words_from from to size (hole ∷ holes) a =
-    let gap = replicate (hole.place - from) false in
-    let len = replicate hole.len true in
-    let rest = words_from (hole.place + hole.len) size holes in
-    ap hole_count (append_assoc gap len rest)
-    ∙ (count_behind_false (hole.place - from) (len ++ rest)
-    ∙ (count_of_hole hole.len rest a.1
-    ∙ (let e : 1 + hole_count_after true rest ≡ suc (length holes) = omega (
+    grind (
       arith,
-      count_from_taken true rest
-          (front_taken (hole.place + hole.len) size holes a.3),
-      hole_count-words_from (hole.place + hole.len)
-          (hole.place + hole.len + 1) size holes a.3,
-    ) in e)))
+      words_from,
+      append_assoc,
+      count_behind_false,
+      count_of_hole,
+      count_from_taken,
+      front_taken,
+      hole_count-words_from (hole.place + hole.len) (hole.place + hole.len + 1) size holes a.3,
+    )
 
 -- The widest hole.
 unfoldable pub most_len : List Range → ℕ
@@ -313,7 +282,7 @@ run_of_hole (suc n) free = omega (arith, run_of_hole n free)
 widest_of_hole : (n : ℕ) (free : List Bool) → front_run free ≡ 0 →
     widest (replicate n true ++ free) ≡ max n (widest free)
 widest_of_hole zero free taken = omega arith
-widest_of_hole (suc n) free taken = omega (arith, run_of_hole n free, widest_of_hole n free taken)
+widest_of_hole (suc n) free taken = grind (arith, run_of_hole, widest_of_hole n free taken)
 
 pub widest-words_from : (from to size : ℕ) (holes : List Range) → AreApart to size holes →
     widest (words_from from size holes) ≡ most_len holes
@@ -324,13 +293,16 @@ widest-words_from from to size [] a = none (size - from)
     none zero = refl
     none (suc n) = omega (arith, none n)
 widest-words_from from to size (hole ∷ holes) a =
-    let gap = replicate (hole.place - from) false in
-    let len = replicate hole.len true in
-    let rest = words_from (hole.place + hole.len) size holes in
-    ap widest (append_assoc gap len rest)
-    ∙ (widest_behind_false (hole.place - from) (len ++ rest)
-    ∙ (widest_of_hole hole.len rest (run_from_taken rest (front_taken (hole.place + hole.len) size holes a.3))
-    ∙ ap (max hole.len) (widest-words_from (hole.place + hole.len) (hole.place + hole.len + 1) size holes a.3)))
+    grind (
+      arith,
+      words_from,
+      append_assoc,
+      widest_behind_false,
+      widest_of_hole,
+      run_from_taken,
+      front_taken,
+      widest-words_from (hole.place + hole.len) (hole.place + hole.len + 1) size holes a.3,
+    )
 
 -- The holes of the list are the holes of the words.
 pub starts : (from size : ℕ) (holes : List Range) → from ≤ size → AreApart from size holes → StartsFrom from size holes
@@ -340,34 +312,31 @@ starts from size (hole ∷ holes) within a = a.0
 
 pub without_hole : (size : ℕ) (xs : List Range) (hole : Range) (ys : List Range) → AreApart 0 size (xs ++ hole ∷ ys) →
     AreApart 0 size (xs ++ ys)
-without_hole size xs hole ys a =
-    let b = apart_back 0 size xs (hole ∷ ys) a in
-    apart-append 0 size xs ys (apart_front 0 size xs (hole ∷ ys) a) (apart_weaker (bound 0 xs)
-    (hole.place + hole.len + 1) size ys (omega (arith, b.0)) b.3)
+without_hole size xs hole ys a = grind (arith, apart_back, apart-append, apart_front, apart_weaker, bound)
 
 pub next-le-hole : (size : ℕ) (xs : List Range) (hole : Range) (ys : List Range) → AreApart 0 size (xs ++ hole ∷ ys) →
     next_from 0 xs ≤ hole.place
-next-le-hole size xs hole ys a =
-    omega (arith, next-le-bound 0 0 xs (omega arith), (apart_back 0 size xs (hole ∷ ys) a).0)
+next-le-hole size xs hole ys a = grind (arith, next-le-bound, apart_back)
 
 pub starts_behind : (size : ℕ) (xs : List Range) (hole : Range) (ys : List Range) → AreApart 0 size (xs ++ hole ∷ ys) →
     StartsFrom (hole.place + hole.len) size ys
-starts_behind size xs hole ys a =
-    let b = apart_back 0 size xs (hole ∷ ys) a in
-    starts (hole.place + hole.len) size ys b.2 (apart_weaker (hole.place + hole.len) (hole.place + hole.len + 1) size
-    ys (omega arith) b.3)
+starts_behind size xs hole ys a = grind (arith, apart_back, starts, apart_weaker)
 
 pub hole_inside : (size : ℕ) (xs : List Range) (hole : Range) (ys : List Range) → AreApart 0 size (xs ++ hole ∷ ys) →
     AllFree (words_from 0 size (xs ++ hole ∷ ys)) hole.place hole.len
 hole_inside size xs hole ys a word from to =
-    let b = apart_back 0 size xs (hole ∷ ys) a in
-    let others = words_from 0 size (xs ++ ys) in
-    let size_is : length others ≡ size - 0 = length-words_from 0 0 size (xs ++ ys) (omega arith)
-    (without_hole size xs hole ys a) in
-    ap (λ (free : List Bool). is_free free word)
-    (words_given size xs hole.place hole.len ys (apart_front 0 size xs (hole ∷ ys) a) (next-le-hole size xs hole ys a)
-    (starts_behind size xs hole ys a))
-    ∙ set_range_inside others hole.place hole.len true word (omega (arith, b.2)) from to
+    grind (
+      arith,
+      apart_back,
+      words_from,
+      length-words_from,
+      without_hole,
+      words_given,
+      apart_front,
+      next-le-hole,
+      starts_behind,
+      set_range_inside,
+    )
 
 hole_before : (size : ℕ) (xs : List Range) (hole : Range) (ys : List Range) → AreApart 0 size (xs ++ hole ∷ ys) →
     (word : ℕ) → word + 1 ≡ hole.place → is_free (words_from 0 size (xs ++ hole ∷ ys)) word ≡ false
@@ -379,47 +348,42 @@ hole_before size xs hole ys a word next =
     let gap = replicate (hole.place - next_from 0 xs) false in
     let back = replicate hole.len true ++ words_from (hole.place + hole.len) size ys in
     let lt : next_from 0 xs < hole.place = next-lt-place hole.place xs (omega arith) b.0 in
-    let at : length before + 0 ≡ next_from 0 xs = length-words_before 0 0 size xs (omega arith) front in
-    ap (λ (free : List Bool). is_free free word) (hole_between size xs hole ys)
-    ∙ (get_or_append_left (before ++ gap) back false word (omega (
+    grind (
       arith,
-      length-append before gap,
-      length-replicate
-          (hole.place - next_from 0 xs) false,
-    ))
-    ∙ (get_or-append_right before gap (next_from 0 xs) word false (omega arith) (omega arith)
-    ∙ get_or-replicate (hole.place - next_from 0 xs) (word - next_from 0 xs) false false (omega arith)))
+      next_from,
+      length-words_before,
+      hole_between,
+      get_or_append_left,
+      length-append,
+      length-replicate,
+      get_or-append_right,
+      get_or-replicate,
+    )
 
 hole_behind : (size : ℕ) (xs : List Range) (hole : Range) (ys : List Range) → AreApart 0 size (xs ++ hole ∷ ys) →
     is_free (words_from 0 size (xs ++ hole ∷ ys)) (hole.place + hole.len) ≡ false
 hole_behind size xs hole ys a =
-    let b = apart_back 0 size xs (hole ∷ ys) a in
-    let front = apart_front 0 size xs (hole ∷ ys) a in
-    let len = replicate hole.len true in
-    let rest = words_from (hole.place + hole.len) size ys in
-    let before = front_of xs hole.place in
-    let at : length before ≡ hole.place = length-front_of size hole.place xs front (next-le-hole size xs hole ys a) in
-    ap (λ (free : List Bool). is_free free (hole.place + hole.len))
-    (hole_between size xs hole ys ∙ sym (append_assoc before len rest))
-    ∙ (get_or-append_right (before ++ len) rest (hole.place + hole.len) (hole.place + hole.len) false (omega
-    (arith, length-append before len, length-replicate hole.len true)) (omega arith)
-    ∙ (ap (λ n. get_or rest n false) (let e : (hole.place + hole.len) - (hole.place + hole.len) ≡ 0 = omega arith in
-    e)
-    ∙ front_taken (hole.place + hole.len) size ys b.3))
+    grind (
+      arith,
+      apart_back,
+      apart_front,
+      words_from,
+      length-front_of,
+      next-le-hole,
+      hole_between,
+      append_assoc,
+      get_or-append_right,
+      length-append,
+      length-replicate,
+      front_taken,
+    )
 
 pub hole_is_hole : (size : ℕ) (xs : List Range) (hole : Range) (ys : List Range) → AreApart 0 size (xs ++ hole ∷ ys) →
     IsHole (words_from 0 size (xs ++ hole ∷ ys)) hole.place hole.len
-hole_is_hole size xs hole ys a = record {
-  some = (apart_back 0 size xs (hole ∷ ys) a).1;
-  inside = hole_inside size xs hole ys a;
-  before = hole_before size xs hole ys a;
-  behind = hole_behind size xs hole ys a;
-}
+hole_is_hole size xs hole ys a = grind (arith, apart_back, hole_inside, hole_before, hole_behind)
 
 not_in_gap : (n word : ℕ) (back : List Bool) → word < n → is_free (replicate n false ++ back) word ≡ true → ⊥
-not_in_gap n word back lt free =
-    false≢true (sym (get_or_append_left (replicate n false) back false word (omega (arith, length-replicate n false))
-    ∙ get_or-replicate n word false false lt) ∙ free)
+not_in_gap n word back lt free = grind (arith, false≢true, get_or_append_left, length-replicate, get_or-replicate)
 
 -- free words in a row lie in one hole
 pub run_in_hole : (from to size : ℕ) (holes : List Range) (place len : ℕ) (d : Range) → from ≤ to →
@@ -428,42 +392,33 @@ pub run_in_hole : (from to size : ℕ) (holes : List Range) (place len : ℕ) (d
     (get_or holes k d).len)
 run_in_hole from to size [] place len d le a all some =
     absurd (elim (cases_lt place (size - from)) [
-      | inl lt ↦ false≢true (sym (get_or-replicate (size - from) place false false lt) ∙ all place (omega arith)
-          (omega arith))
-      | inr ge ↦ false≢true (sym (get_or_past (replicate (size - from) false) place false
-          (omega (arith, length-replicate (size - from) false))) ∙ all place (omega arith) (omega arith))
+      | inl lt ↦ false≢true (grind (arith, get_or-replicate (size - from) place false false lt))
+      | inr ge ↦ false≢true (sym (grind (arith, get_or_past, length-replicate)) ∙ all place (omega arith) (omega arith))
     ])
 run_in_hole from to size (hole ∷ holes) place len d le a all some =
     let gap = replicate (hole.place - from) false in
     let words = replicate hole.len true in
     let rest = words_from (hole.place + hole.len) size holes in
     let end = hole.place + hole.len - from in
-    let at : length (gap ++ words) ≡ end = omega (
-      arith,
-      a.0,
-      length-append gap words,
-      length-replicate
-          (hole.place - from) false,
-      length-replicate hole.len true,
-    ) in
-    let later : (word : ℕ) → end ≤ word → is_free (gap ++ words ++ rest) word ≡ is_free rest (word - end) = λ word ge.
-    get_or-append_right (gap ++ words) rest end word false at ge in
+    let at : length (gap ++ words) ≡ end = grind (arith, length-append, length-replicate) in
+    let later : (word : ℕ) → end ≤ word → is_free (gap ++ words ++ rest) word ≡ is_free rest (word - end) = grind
+    (arith, get_or-append_right) in
     elim (cases_lt (from + place) hole.place) [
-      | inl before ↦ absurd (not_in_gap (hole.place - from) place (words ++ rest) (omega arith) (ap
-          (λ (free : List Bool). is_free free place) (sym (append_assoc gap words rest)) ∙ all place (omega arith)
-          (omega arith)))
+      | inl before ↦ absurd (not_in_gap (hole.place - from) place (words ++ rest) (omega arith) (grind (
+        arith,
+        append_assoc,
+      )))
       | inr behind ↦ elim (cases_lt (from + place) (hole.place + hole.len)) [
         | inl inside ↦ elim (cases_lt (hole.place + hole.len) (from + place + len)) [
-          | inl past ↦ absurd (false≢true (sym (later end (omega arith) ∙ (ap (λ n. is_free rest n)
-              (let e : end - end ≡ 0 = omega arith in e) ∙ front_taken (hole.place + hole.len) size holes a.3)) ∙ all
+          | inl past ↦ absurd (false≢true (sym (grind (arith, front_taken (hole.place + hole.len) size holes a.3)) ∙ all
               end (omega (arith, a.0)) (omega (arith, a.0))))
           | inr within ↦ (0, omega arith, behind, within)
         ]
         | inr past ↦
             let rec = run_in_hole (hole.place + hole.len) (hole.place + hole.len + 1) size holes (place - end) len d
             (omega arith) a.3
-            (λ word ge lt. ap (λ n. is_free rest n) (let e : word ≡ (word + end) - end = omega arith in e) ∙ (sym
-            (later (word + end) (omega arith)) ∙ all (word + end) (omega (arith, a.0)) (omega (arith, a.0))))
+            (λ word ge lt. ap (λ n. is_free rest n) (let e : word ≡ (word + end) - end = omega arith in e) ∙
+            (grind arith))
             some in
             (suc rec.0, omega (arith, rec.1), omega (arith, rec.2, a.0), omega (arith, rec.3, a.0))
       ]
@@ -475,10 +430,7 @@ pub hole_is_at : (size : ℕ) (holes : List Range) (index : ℕ) → AreApart 0 
 hole_is_at size holes index a lt =
     let split : holes ≡ take index holes ++ range_at holes index ∷ drop (suc index) holes = split_at holes index
     (record { place = 0; len = 0 }) lt in
-    subst (λ (old : List Range). IsHole (words_from 0 size old) (range_at holes index).place (range_at holes index).len)
-    (sym split)
-    (hole_is_hole size (take index holes) (range_at holes index) (drop (suc index) holes)
-    (subst (AreApart 0 size) split a))
+    search (rules, words_from, hole_is_hole, AreApart)
 
 pub len-le-most_len : (holes : List Range) (index : ℕ) → index < length holes →
     (range_at holes index).len ≤ most_len holes

@@ -1,11 +1,11 @@
 -- Looking for the lowest fit in some bitmaps that follow one another.
-use Rattle.std.proofs.Common.{◌≡◌, ℕ, ◌+◌, ◌-◌, ◌*◌, ◌<◌, ◌≤◌, Bool, true, false, cond, List, ◌++◌, length, get_or}
-use Rattle.std.proofs.Common.{Option, Some, None, IsNone, IfSome, sym, ◌∙◌, ap, arith, inl, inr, ◌^◌}
+use Rattle.std.proofs.Common.{◌≡◌, ℕ, ◌+◌, ◌-◌, ◌*◌, ◌<◌, ◌≤◌, true, false, cond, List, ◌++◌, length, get_or}
+use Rattle.std.proofs.Common.{Option, Some, None, IsNone, IfSome, ap, arith, inl, inr, ◌^◌}
 use Rattle.std.specs.Prelude.{replicate}
 use Rattle.std.proofs.lemmas.Bool.{cases_lt, true≢false}
 use Rattle.holes.specs.declared.summary.Summary.{Summary}
 use Rattle.holes.specs.FreeWords.{front_run, widest}
-use Rattle.holes.specs.Tree.{words_from, words_of_bits, word_at, words_of, words_between, all_free, back_run}
+use Rattle.holes.specs.Tree.{words_of_bits, word_at, words_of, words_between, all_free, back_run}
 use Rattle.holes.specs.Tree.{lowest_fit, summary, join, NoneBelow}
 use Rattle.holes.proofs.Runs.{back-le-length, widest-append, back-append, summary-append, lowest-append_left}
 use Rattle.holes.proofs.Runs.{lowest-append_between, lowest-append_right}
@@ -18,38 +18,25 @@ pub record Passed (bits : List ℕ) (len first index run : ℕ) : Type 0 where
   pub short : widest (words_between bits first index) < len
   pub back : back_run (words_between bits first index) ≡ run
 
-no_bitmaps : (bits : List ℕ) (first : ℕ) → words_between bits first first ≡ words_from (word_at bits) (64 * first) 0
-no_bitmaps bits first =
-    ap (words_from (word_at bits) (64 * first)) (let e : 64 * (first - first) ≡ 0 = omega arith in e)
-
 pub passed_none : (bits : List ℕ) (len first : ℕ) → 1 ≤ len → Passed bits len first first 0
-passed_none bits len first some =
-    let none = no_bitmaps bits first in
-    record { short = omega (arith, ap widest none); back = ap back_run none }
+passed_none bits len first some = grind arith
 
 pub length-between : (bits : List ℕ) (first end : ℕ) → length (words_between bits first end) ≡ 64 * (end - first)
-length-between bits first end = length-words (word_at bits) (64 * first) (64 * (end - first))
+length-between bits first end = omega (arith, length-words)
 
 pub between_split : (bits : List ℕ) (first index end : ℕ) → first ≤ index → index ≤ end →
     words_between bits first end ≡ words_between bits first index ++ words_between bits index end
 between_split bits first index end from to =
-    ap (words_from (word_at bits) (64 * first))
-    (let e : 64 * (end - first) ≡ 64 * (index - first) + 64 * (end - index) = omega arith in e)
-    ∙ (words_from-add (word_at bits) (64 * first) (64 * (index - first)) (64 * (end - index))
-    ∙ ap (λ p. words_between bits first index ++ words_from (word_at bits) p (64 * (end - index)))
-    (let e : 64 * first + 64 * (index - first) ≡ 64 * index = omega arith in e))
+    grind (arith, words_from-add (word_at bits) (64 * first) (64 * (index - first)) (64 * (end - index)))
 
 pub one_bitmap : (bits : List ℕ) (index : ℕ) →
     words_between bits index (index + 1) ≡ words_of_bits (get_or bits index 0)
-one_bitmap bits index =
-    ap (words_from (word_at bits) (64 * index)) (let e : 64 * ((index + 1) - index) ≡ 64 = omega arith in e)
-    ∙ sym (bitmap_words bits index)
+one_bitmap bits index = grind (arith, bitmap_words)
 
 between_next : (bits : List ℕ) (first index : ℕ) → first ≤ index →
     words_between bits first (index + 1) ≡ words_between bits first index ++ words_of_bits (get_or bits index 0)
 between_next bits first index from =
-    between_split bits first index (index + 1) from (omega arith)
-    ∙ ap (λ (words : List Bool). words_between bits first index ++ words) (one_bitmap bits index)
+    cc (between_split bits first index (index + 1) from (omega arith), one_bitmap bits index)
 
 -- the lowest fit of some bitmaps
 pub record Found (bits : List ℕ) (len first end place : ℕ) : Type 0 where
@@ -62,11 +49,12 @@ found_before : (bits : List ℕ) (len first index end place : ℕ) → 1 ≤ len
 found_before bits len first index end place some from to fits is =
     let before = words_between bits first index in
     let rest = words_between bits index end in
-    let all = between_split bits first index end from to in
-    record {
-      fits = omega (arith, ap widest all, widest-append before rest);
-      lowest = omega (arith, is, ap (lowest_fit len) all, lowest-append_left len before rest some fits);
-    }
+    grind (
+      arith,
+      between_split bits first index end from to,
+      widest-append before rest,
+      lowest-append_left len before rest some fits,
+    )
 
 -- it begins right before a bitmap
 pub found_between : (bits : List ℕ) (len first end index run : ℕ) → 1 ≤ len → first ≤ index → index < end →
@@ -78,14 +66,7 @@ found_between bits len first end index run some from lt passed fits =
     let next = between_next bits first index from in
     found_before bits len first (index + 1) end (64 * index - run) some (omega arith) (omega arith)
     (omega (arith, ap widest next, widest-append before here, passed.back))
-    (omega (
-      arith,
-      ap (lowest_fit len) next,
-      lowest-append_between len before here passed.short (omega (arith, passed.back)),
-      passed.back,
-      length-between bits first index,
-      back-le-length before,
-    ))
+    (grind (arith, lowest-append_between, length-between, back-le-length))
 
 -- it begins in a bitmap
 pub found_inside : (bits : List ℕ) (len first end index run place : ℕ) → 1 ≤ len → first ≤ index → index < end →
@@ -98,13 +79,7 @@ found_inside bits len first end index run place some from lt passed apart fits i
     let next = between_next bits first index from in
     found_before bits len first (index + 1) end (64 * index + place) some (omega arith) (omega arith)
     (omega (arith, ap widest next, widest-append before here))
-    (omega (
-      arith,
-      is,
-      ap (lowest_fit len) next,
-      lowest-append_right len before here passed.short (omega (arith, passed.back)),
-      length-between bits first index,
-    ))
+    (grind (arith, lowest-append_right, length-between))
 
 -- it lies after a bitmap
 pub passed_more : (bits : List ℕ) (len first index run next_run : ℕ) → first ≤ index →
@@ -114,43 +89,27 @@ pub passed_more : (bits : List ℕ) (len first index run next_run : ℕ) → fir
     (back_run (words_of_bits (get_or bits index 0)) + run) (back_run (words_of_bits (get_or bits index 0))) →
     Passed bits len first (index + 1) next_run
 passed_more bits len first index run next_run from passed apart short is =
-    let before = words_between bits first index in
-    let here = words_of_bits (get_or bits index 0) in
-    let next = between_next bits first index from in
-    record {
-      short = omega (arith, ap widest next, widest-append before here, passed.back, passed.short);
-      back = ap back_run next ∙ (back-append before here
-          ∙ (ap (λ n. cond (all_free here) (back_run here + n) (back_run here)) passed.back ∙ sym is));
-    }
+    grind (arith, between_next, widest-append, back-append)
 
 pub run_within : (bits : List ℕ) (len first index run : ℕ) → Passed bits len first index run →
     run ≤ 64 * (index - first)
-run_within bits len first index run passed =
-    omega (arith, passed.back, back-le-length (words_between bits first index), length-between bits first index)
+run_within bits len first index run passed = omega (arith, back-le-length, length-between)
 
 -- No word is free before the first of the bitmaps.
 near_words : (bits : List ℕ) (near : ℕ) → near ≤ length bits → NoneBelow bits (64 * near) →
     words_of bits ≡ replicate (64 * near) false ++ words_between bits near (length bits)
 near_words bits near within none =
-    ap (λ n. words_from (word_at bits) 0 n)
-    (let e : 64 * length bits ≡ 64 * near + 64 * (length bits - near) = omega arith in e)
-    ∙ (words_from-add (word_at bits) 0 (64 * near) (64 * (length bits - near))
-    ∙ (ap (λ p. words_from (word_at bits) 0 (64 * near) ++ words_from (word_at bits) p (64 * (length bits - near)))
-    (let e : 0 + 64 * near ≡ 64 * near = omega arith in e)
-    ∙ ap (λ (words : List Bool). words ++ words_between bits near (length bits))
-    (all_words (word_at bits) 0 (64 * near) false (λ word lt. none (0 + word) (omega arith)))))
+    grind (
+      arith,
+      words_from-add (word_at bits) 0 (64 * near) (64 * (length bits - near)),
+      all_words (word_at bits) 0 (64 * near) false (λ word lt. none (0 + word) (omega arith)),
+    )
 
 pub none_near : (bits : List ℕ) (near end : ℕ) → near ≤ end → end ≡ length bits → NoneBelow bits (64 * near) →
     widest (words_between bits near end) < 1 → widest (words_of bits) < 1
 none_near bits near end from all none short =
     let rest = words_between bits near (length bits) in
-    omega (
-      arith,
-      ap widest (near_words bits near (omega (arith, from, all)) none),
-      widest_before (64 * near) rest,
-      ap (λ n. widest (words_between bits near n)) all,
-      short,
-    )
+    grind (arith, near_words bits near (omega (arith, from, all)) none, widest_before (64 * near) rest)
 
 pub found_near : (bits : List ℕ) (len near end place : ℕ) → 1 ≤ len → near ≤ end → end ≤ length bits →
     NoneBelow bits (64 * near) → Found bits len near end place →
@@ -158,18 +117,14 @@ pub found_near : (bits : List ℕ) (len near end place : ℕ) → 1 ≤ len → 
 found_near bits len near end place some from to none found =
     let here = words_between bits near end in
     let rest = words_between bits end (length bits) in
-    let all : words_of bits ≡ replicate (64 * near) false ++ (here ++ rest) =
-    near_words bits near (omega arith) none
-    ∙ ap (λ (words : List Bool). replicate (64 * near) false ++ words)
-    (between_split bits near end (length bits) from to) in (
-      omega (arith, found.fits, ap widest all, widest_before (64 * near) (here ++ rest), widest-append here rest),
-      omega (
-        arith,
-        found.lowest,
-        ap (lowest_fit len) all,
-        lowest_before len (64 * near) (here ++ rest) some,
-        lowest-append_left len here rest some found.fits,
-      ),
+    grind (
+      arith,
+      near_words bits near (omega arith) none,
+      between_split bits near end (length bits) from to,
+      widest_before (64 * near) (here ++ rest),
+      widest-append here rest,
+      lowest_before len (64 * near) (here ++ rest) some,
+      lowest-append_left len here rest some found.fits,
     )
 
 pub found_near_if : (found : Option ℕ) (bits : List ℕ) (len near end : ℕ) → 1 ≤ len → near ≤ end →
@@ -189,22 +144,13 @@ found_near_if (Some place) bits len near end some from to none short lowest =
 pub first_summary : (bits : List ℕ) (first : ℕ) →
     ◌≡◌ {A = Summary} (record { front = 0; back = 0; longest = 0; whole = true })
     (summary (words_between bits first first))
-first_summary bits first = sym (ap summary (no_bitmaps bits first))
+first_summary bits first = grind arith
 
 pub next_summary : (bits : List ℕ) (first index : ℕ) (all : Summary) → first ≤ index → index < length bits →
     64 * length bits < 2 ^ 32 → all ≡ summary (words_between bits first index) →
     join all (summary (words_of_bits (get_or bits index 0))) ≡ summary (words_between bits first (index + 1))
 next_summary bits first index all from lt small is =
-    let before = words_between bits first index in
-    let here = words_of_bits (get_or bits index 0) in
-    ap (λ (s : Summary). join s (summary here)) is
-    ∙ (sym (summary-append before here (omega (
-      arith,
-      length-between bits first index,
-      length-bits (get_or bits index 0),
-    )))
-    ∙ sym (ap summary (between_next bits first index from)))
+    grind (arith, summary-append, length-between, length-bits, between_next)
 
 pub all_between : (bits : List ℕ) (end : ℕ) → end ≡ length bits → words_between bits 0 end ≡ words_of bits
-all_between bits end is =
-    ap (words_from (word_at bits) 0) (let e : 64 * (end - 0) ≡ 64 * length bits = omega arith in e)
+all_between bits end is = grind arith

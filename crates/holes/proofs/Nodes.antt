@@ -1,14 +1,13 @@
 -- The nodes of a tree and the leaves below them.
-use Rattle.std.proofs.Common.{eqb, ◌≡◌, ◌≢◌, ℕ, ◌+◌, ◌-◌, ◌*◌, ◌/◌, ◌%◌, ◌^◌, ◌<◌, ◌≤◌, false, List}
-use Rattle.std.proofs.Common.{◌++◌, length, get_or, set, ◌⊎◌, refl, sym, ◌∙◌, ap, inl, inr, arith, zero, suc}
+use Rattle.std.proofs.Common.{◌≡◌, ◌≢◌, ℕ, ◌+◌, ◌-◌, ◌*◌, ◌/◌, ◌^◌, ◌<◌, ◌≤◌, false, List}
+use Rattle.std.proofs.Common.{◌++◌, length, get_or, set, ◌⊎◌, refl, ◌∙◌, ap, inl, inr, arith, zero, suc, rules}
 use Rattle.std.specs.Prelude.{replicate}
 use Rattle.std.proofs.lemmas.Bool.{cases_lt, cases_eq}
 use Rattle.std.proofs.lemmas.List.{get_or_past, get_or-set_same, get_or-set_other}
 use Rattle.std.proofs.lemmas.Nat.Bits.{bit_at-zero}
 use Rattle.holes.specs.declared.summary.Summary.{Summary}
-use Rattle.holes.specs.Tree.{is_set, words_from, words_of_bits, word_at, node_at, nothing_free, summary, join}
-use Rattle.holes.specs.Tree.{leaf_words, words_between, width, first_leaf, IsNode, node_words, IsRight, IsAlike}
-use Rattle.holes.specs.Tree.{above}
+use Rattle.holes.specs.Tree.{is_set, words_from, words_of_bits, word_at, node_at, summary, join}
+use Rattle.holes.specs.Tree.{leaf_words, words_between, width, first_leaf, IsNode, node_words, IsRight, IsAlike, above}
 use Rattle.holes.proofs.Runs.{summary-append}
 use Rattle.holes.proofs.Bits.{same_words_from, words_from-add, length-words, all_words}
 
@@ -26,13 +25,7 @@ pub first_leaf-next : (height index : ℕ) → first_leaf height (index + 1) ≡
 unfolding first_leaf width
 first_leaf-next zero index = refl
 first_leaf-next (suc height) index =
-    let both : 2 * (index + 1) ≡ (2 * index + 1) + 1 = omega arith in
-    omega (
-      arith,
-      ap (first_leaf height) both,
-      first_leaf-next height (2 * index + 1),
-      first_leaf-next height (2 * index),
-    )
+    grind (arith, first_leaf-next height (2 * index + 1), first_leaf-next height (2 * index))
 
 pub first_leaf-zero : (height : ℕ) → first_leaf height 0 ≡ 0
 unfolding first_leaf
@@ -49,58 +42,43 @@ width-two (suc height) some = omega (arith, width-pos height)
 
 pub pow_le : (i j : ℕ) → i ≤ j → 2 ^ i ≤ 2 ^ j
 pow_le zero zero le = omega arith
-pow_le zero (suc j) le = omega (arith, pow_le zero j (omega arith))
+pow_le zero (suc j) le = search rules
 pow_le (suc i) zero le = absurd (omega arith)
 pow_le (suc i) (suc j) le = omega (arith, pow_le i j (omega arith))
 
 -- the parts of a node, and the node of which it is a part
-pub left_part : (top height index : ℕ) → IsNode top (suc height) index → IsNode top height (2 * index)
-left_part top height index is =
+pub left_part : {top height index : ℕ} → IsNode top (suc height) index → IsNode top height (2 * index)
+left_part is =
     let double : 2 ^ suc is.depth ≡ 2 * 2 ^ is.depth = omega arith in
-    record {
-      depth = suc is.depth;
-      at = omega (arith, is.at);
-      from = omega (arith, double, is.from);
-      to = omega (arith, double, is.to);
-    }
+    grind arith
 
-pub right_part : (top height index : ℕ) → IsNode top (suc height) index → IsNode top height (2 * index + 1)
-right_part top height index is =
+pub right_part : {top height index : ℕ} → IsNode top (suc height) index → IsNode top height (2 * index + 1)
+right_part is =
     let double : 2 ^ suc is.depth ≡ 2 * 2 ^ is.depth = omega arith in
-    record {
-      depth = suc is.depth;
-      at = omega (arith, is.at);
-      from = omega (arith, double, is.from);
-      to = omega (arith, double, is.to);
-    }
+    grind arith
 
 parent_at : (depth top height index : ℕ) → height + depth ≡ top → 2 ^ depth ≤ index → index < 2 * 2 ^ depth →
     1 < index → IsNode top (suc height) (index / 2)
 parent_at zero top height index at from to some = absurd (omega arith)
-parent_at (suc depth) top height index at from to some =
-    let double : 2 ^ suc depth ≡ 2 * 2 ^ depth = omega arith in
-    record { depth = depth; at = omega arith; from = omega arith; to = omega arith }
+parent_at (suc depth) top height index at from to some = grind arith
 
-pub parent : (top height index : ℕ) → IsNode top height index → 1 < index → IsNode top (suc height) (index / 2)
-parent top height index is some = parent_at is.depth top height index is.at is.from is.to some
+pub parent : {top height index : ℕ} → IsNode top height index → 1 < index → IsNode top (suc height) (index / 2)
+parent is some = grind (arith, parent_at)
 
 -- a node has one height
 same_depth : (d e index : ℕ) → 2 ^ d ≤ index → index < 2 * 2 ^ d → 2 ^ e ≤ index → index < 2 * 2 ^ e → d ≡ e
 same_depth d e index from to other_from other_to = elim (cases_lt d e) [
   | inl below ↦
-      let double : 2 ^ suc d ≡ 2 * 2 ^ d = omega arith in
-      absurd (omega (arith, double, pow_le (suc d) e (omega arith)))
+      grind (arith, pow_le (suc d) e (omega arith))
   | inr ge ↦ elim (cases_lt e d) [
     | inl below ↦
-        let double : 2 ^ suc e ≡ 2 * 2 ^ e = omega arith in
-        absurd (omega (arith, double, pow_le (suc e) d (omega arith)))
+        grind (arith, pow_le (suc e) d (omega arith))
     | inr le ↦ omega arith
   ]
 ]
 
-pub same_height : (top height other index : ℕ) → IsNode top height index → IsNode top other index → height ≡ other
-same_height top height other index is also =
-    omega (arith, is.at, also.at, same_depth is.depth also.depth index is.from is.to also.from also.to)
+pub same_height : {top height other index : ℕ} → IsNode top height index → IsNode top other index → height ≡ other
+same_height is also = grind (arith, same_depth)
 
 -- the leaves of the tree are at the indices from 2 ^ top on
 pub record Span (top height index : ℕ) : Type 0 where
@@ -109,32 +87,32 @@ pub record Span (top height index : ℕ) : Type 0 where
 
 pub span : (top height index : ℕ) → IsNode top height index → Span top height index
 unfolding first_leaf width
-span top zero index is =
-    let same : 2 ^ is.depth ≡ 2 ^ top = ap (λ n. 2 ^ n) (let e : is.depth ≡ top = omega (arith, is.at) in e) in
-    record { from = omega (arith, is.from); to = omega (arith, is.to) }
+span top zero index is = grind arith
 span top (suc height) index is =
-    let left = span top height (2 * index) (left_part top height index is) in
-    let right = span top height (2 * index + 1) (right_part top height index is) in
-    record { from = left.from; to = omega (arith, right.to, first_leaf-next height (2 * index)) }
+    omega (
+      arith,
+      left_part,
+      right_part,
+      first_leaf-next,
+      span top height (2 * index) (left_part is),
+      span top height (2 * index + 1) (right_part is),
+    )
 
 pub leaf_first : (leaf : ℕ) → first_leaf 0 leaf ≡ leaf
 unfolding first_leaf
 leaf_first leaf = refl
 
 pub leaf_is : (top leaf : ℕ) → 2 ^ top ≤ leaf → leaf < 2 * 2 ^ top → IsNode top 0 leaf
-leaf_is top leaf from to = record { depth = top; at = omega arith; from = from; to = to }
+leaf_is top leaf from to = grind arith
 
 -- a node that has parts has an index below those of the leaves
-pub inner : (top height index : ℕ) → IsNode top height index → 1 ≤ height → (1 ≤ index) × (index < 2 ^ top)
-inner top height index is some =
-    let double : 2 ^ suc is.depth ≡ 2 * 2 ^ is.depth = omega arith in (
-      omega (arith, is.from, pow_le 0 is.depth (omega arith)),
-      omega (arith, is.to, double, pow_le (suc is.depth) top (omega (arith, is.at))),
-    )
+pub inner : {top height index : ℕ} → IsNode top height index → 1 ≤ height → (1 ≤ index) × (index < 2 ^ top)
+inner {top} is some =
+    omega (arith, pow_le 0 is.depth (omega arith), pow_le (suc is.depth) top (omega (arith, is.at)))
 
-pub leaf_height : (top height index : ℕ) → IsNode top height index → 2 ^ top ≤ index → height ≡ 0
-leaf_height top height index is ge = elim (cases_lt 0 height) [
-  | inl some ↦ absurd (omega (arith, (inner top height index is some).1))
+pub leaf_height : {top height index : ℕ} → IsNode top height index → 2 ^ top ≤ index → height ≡ 0
+leaf_height {height} is ge = elim (cases_lt 0 height) [
+  | inl some ↦ absurd (omega (arith, (inner is some).1))
   | inr none ↦ omega arith
 ]
 
@@ -145,26 +123,19 @@ pub record Inside (height index : ℕ) : Type 0 where
 
 pub inside_parent : (height index : ℕ) → Inside height index
 unfolding first_leaf width
-inside_parent height index = elim (cases_eq index (2 * (index / 2))) [
-  | inl even ↦
-      let same = ap (first_leaf height) even in
-      record { from = omega (arith, same); to = omega (arith, same) }
-  | inr odd ↦
-      let is : index ≡ 2 * (index / 2) + 1 = elim (cases_lt index (2 * (index / 2) + 1)) [
-        | inl lt ↦ absurd (odd (omega arith))
-        | inr ge ↦ omega arith
-      ] in
-      let same = ap (first_leaf height) is in
-      let next = first_leaf-next height (2 * (index / 2)) in
-      record { from = omega (arith, same, next); to = omega (arith, same, next) }
-]
+inside_parent height index = grind (
+  arith,
+  cases_eq index (2 * (index / 2)),
+  cases_lt index (2 * (index / 2) + 1),
+  first_leaf-next height (2 * (index / 2)),
+)
 
 -- nodes of one height have their leaves one after another
 pub first_leaf-lt : (height i j : ℕ) → i < j → first_leaf height i + width height ≤ first_leaf height j
 unfolding first_leaf width
 first_leaf-lt zero i j lt = omega arith
 first_leaf-lt (suc height) i j lt =
-    omega (arith, first_leaf-lt height (2 * i + 1) (2 * j) (omega arith), first_leaf-next height (2 * i))
+    omega (arith, first_leaf-next, first_leaf-lt height (2 * i + 1) (2 * j) (omega arith))
 
 -- the nodes above a leaf
 pub above_is : (top height leaf : ℕ) → IsNode top 0 leaf → height ≤ top → IsNode top height (above height leaf)
@@ -172,8 +143,8 @@ unfolding above
 above_is top zero leaf is le = is
 above_is top (suc height) leaf is le =
     let here = above_is top height leaf is (omega arith) in
-    parent top height (above height leaf) here
-    (omega (arith, here.from, here.at, pow_le 1 here.depth (omega (arith, here.at))))
+    parent here
+    (grind (arith, pow_le 1 here.depth (omega (arith, here.at))))
 
 pub record Covers (height index leaf : ℕ) : Type 0 where
   pub from : first_leaf height index ≤ leaf
@@ -181,11 +152,8 @@ pub record Covers (height index leaf : ℕ) : Type 0 where
 
 pub above_covers : (height leaf : ℕ) → Covers height (above height leaf) leaf
 unfolding above first_leaf width
-above_covers zero leaf = record { from = omega arith; to = omega arith }
-above_covers (suc height) leaf =
-    let here = above_covers height leaf in
-    let up = inside_parent height (above height leaf) in
-    record { from = omega (arith, here.from, up.from); to = omega (arith, here.to, up.to) }
+above_covers zero leaf = omega arith
+above_covers (suc height) leaf = grind (arith, inside_parent, above_covers height leaf)
 
 pub above_past : (top height leaf : ℕ) → IsNode top 0 leaf → top < height → above height leaf ≡ 0
 unfolding above
@@ -193,13 +161,11 @@ above_past top zero leaf is lt = absurd (omega arith)
 above_past top (suc height) leaf is lt = elim (cases_lt top height) [
   | inl past ↦ omega (arith, above_past top height leaf is past)
   | inr last ↦
-      let here = above_is top height leaf is (omega arith) in
-      let root : 2 ^ here.depth ≡ 2 ^ 0 = ap (λ n. 2 ^ n) (let e : here.depth ≡ 0 = omega (arith, here.at) in e) in
-      omega (arith, here.to, root)
+      grind (arith, above_is top height leaf is (omega arith))
 ]
 
-pub above_within : (top height leaf : ℕ) → IsNode top 0 leaf → 0 < above height leaf → height ≤ top
-above_within top height leaf is some = elim (cases_lt top height) [
+pub above_within : {top : ℕ} (height : ℕ) {leaf : ℕ} → IsNode top 0 leaf → 0 < above height leaf → height ≤ top
+above_within {top} height {leaf} is some = elim (cases_lt top height) [
   | inl past ↦ absurd (omega (arith, above_past top height leaf is past))
   | inr le ↦ le
 ]
@@ -210,9 +176,9 @@ pub apart_above : (height index leaf : ℕ) → index ≢ above height leaf →
 apart_above height index leaf ne =
     let here = above_covers height leaf in
     elim (cases_lt index (above height leaf)) [
-      | inl below ↦ inl (omega (arith, here.from, first_leaf-lt height index (above height leaf) below))
+      | inl below ↦ grind (arith, first_leaf-lt height index (above height leaf) below)
       | inr ge ↦ elim (cases_lt (above height leaf) index) [
-        | inl past ↦ inr (omega (arith, here.to, first_leaf-lt height (above height leaf) index past))
+        | inl past ↦ grind (arith, first_leaf-lt height (above height leaf) index past)
         | inr le ↦ absurd (ne (omega arith))
       ]
     ]
@@ -231,11 +197,7 @@ same_block (suc (suc (suc (suc height)))) index leaf low from to = absurd (omega
 pub bitmap_words : (bits : List ℕ) (index : ℕ) →
     words_of_bits (get_or bits index 0) ≡ words_from (word_at bits) (64 * index) 64
 unfolding words_of_bits
-bitmap_words bits index =
-    same_words_from (is_set (get_or bits index 0)) (word_at bits) 0 (64 * index) 64 (λ word lt.
-    let row : (64 * index + word) / 64 ≡ index = omega arith in
-    let column : (64 * index + word) % 64 ≡ 0 + word = omega arith in
-    sym (ap (λ n. is_set (get_or bits n 0) ((64 * index + word) % 64)) row ∙ ap (is_set (get_or bits index 0)) column))
+bitmap_words bits index = same_words_from (is_set (get_or bits index 0)) (word_at bits) 0 (64 * index) 64 (grind arith)
 
 -- the words of the bitmaps of a leaf
 pub between_leaf : (bits : List ℕ) (leaf first end : ℕ) → first ≡ 4 * leaf → end ≡ first + 4 →
@@ -248,73 +210,55 @@ between_leaf bits leaf first end from to =
 pub length-node_words : (bits : List ℕ) (top height index : ℕ) →
     length (node_words bits top height index) ≡ 256 * width height
 unfolding node_words
-length-node_words bits top height index =
-    length-words (word_at bits) (256 * (first_leaf height index - 2 ^ top)) (256 * width height)
+length-node_words bits top height index = omega (arith, length-words)
 
 pub leaf_node : (bits : List ℕ) (top leaf : ℕ) → node_words bits top 0 leaf ≡ leaf_words bits (leaf - 2 ^ top)
 unfolding node_words first_leaf width
 leaf_node bits top leaf = refl
 
-pub node_words-split : (bits : List ℕ) (top height index : ℕ) → IsNode top (suc height) index →
-    node_words bits top (suc height) index
-    ≡ node_words bits top height (2 * index) ++ node_words bits top height (2 * index + 1)
+pub node_words-split : (bits : List ℕ) {top : ℕ} (height : ℕ) {index : ℕ} → IsNode top (suc height) index → node_words
+    bits top (suc height) index ≡ node_words bits top height (2 * index) ++ node_words bits top height (2 * index + 1)
 unfolding node_words first_leaf width
-node_words-split bits top height index is =
+node_words-split bits {top} height {index} is =
     let from = 256 * (first_leaf height (2 * index) - 2 ^ top) in
     let wide = 256 * width height in
-    let both : 256 * (width height + width height) ≡ wide + wide = omega arith in
-    let here = span top height (2 * index) (left_part top height index is) in
-    let next : from + wide ≡ 256 * (first_leaf height (2 * index + 1) - 2 ^ top) =
-    omega (arith, here.from, first_leaf-next height (2 * index)) in
-    ap (words_from (word_at bits) from) both
-    ∙ (words_from-add (word_at bits) from wide wide
-    ∙ ap (λ p. words_from (word_at bits) from wide ++ words_from (word_at bits) p wide) next)
+    grind (
+      arith,
+      span top height (2 * index) (left_part is),
+      left_part is,
+      first_leaf-next height (2 * index),
+      words_from-add (word_at bits) from wide wide,
+    )
 
 -- a node whose parts are right is right once they are joined
-pub join_right : (bits : List ℕ) (nodes : List Summary) (top height index : ℕ) → 256 * 2 ^ top < 2 ^ 32 →
-    IsNode top (suc height) index → IsRight bits nodes top height (2 * index) →
-    IsRight bits nodes top height (2 * index + 1) →
-    join (node_at nodes (2 * index)) (node_at nodes (2 * index + 1)) ≡ summary (node_words bits top (suc height) index)
-join_right bits nodes top height index small is left_right right_right =
+pub join_right : (bits : List ℕ) (nodes : List Summary) {top : ℕ} (height : ℕ) {index : ℕ} → 256 * 2 ^ top < 2 ^ 32 →
+    IsNode top (suc height) index → IsRight bits nodes top height (2 * index) → IsRight bits nodes top height (2 *
+    index + 1) → join (node_at nodes (2 * index)) (node_at nodes (2 * index + 1)) ≡ summary (node_words bits top (suc
+    height) index)
+join_right bits nodes {top} height {index} small is left_right right_right =
     let left_words = node_words bits top height (2 * index) in
     let right_words = node_words bits top height (2 * index + 1) in
-    let left = span top height (2 * index) (left_part top height index is) in
-    let right = span top height (2 * index + 1) (right_part top height index is) in
-    ap (λ (node : Summary). join node (node_at nodes (2 * index + 1))) left_right
-    ∙ (ap (join (summary left_words)) right_right
-    ∙ (sym (summary-append left_words right_words (omega (
-      arith,
-      small,
-      left.from,
-      right.to,
-      first_leaf-next height (2 * index),
-      length-node_words bits top height (2 * index),
-      length-node_words bits top height (2 * index + 1),
-    )))
-    ∙ sym (ap summary (node_words-split bits top height index is))))
+    let left = span top height (2 * index) (left_part is) in
+    let right = span top height (2 * index + 1) (right_part is) in
+    grind (arith, summary-append, first_leaf-next, length-node_words, node_words-split)
 
 -- the words of a low node in a block that is all free, or has no free word
-pub alike_words : (bits : List ℕ) (top height index : ℕ) (alike : IsAlike bits top (first_leaf height index)) →
-    IsNode top height index → height ≤ 3 → node_words bits top height index ≡ replicate (256 * width height) alike.0
+pub alike_words : (bits : List ℕ) {top height index : ℕ} (alike : IsAlike bits top (first_leaf height index)) → IsNode
+    top height index → height ≤ 3 → node_words bits top height index ≡ replicate (256 * width height) alike.0
 unfolding node_words
-alike_words bits top height index alike is low =
+alike_words bits {top} {height} {index} alike is low =
     let here = span top height index is in
-    all_words (word_at bits) (256 * (first_leaf height index - 2 ^ top)) (256 * width height) alike.0
-    (λ word lt. alike.1 (256 * (first_leaf height index - 2 ^ top) + word)
-    (same_block height index (2 ^ top + (256 * (first_leaf height index - 2 ^ top) + word) / 256) low
-    (omega (arith, here.from)) (omega (arith, here.from))))
+    grind (arith, all_words, same_block)
 
 -- a node that is changed
 pub read_same : (nodes : List Summary) (index : ℕ) (node : Summary) → index < length nodes →
     node_at (set nodes index node) index ≡ node
-read_same nodes index node lt = get_or-set_same nodes index node nothing_free lt
+read_same nodes index node lt = grind (arith, get_or-set_same)
 
 pub read_other : (nodes : List Summary) (index other : ℕ) (node : Summary) → other ≢ index →
     node_at (set nodes index node) other ≡ node_at nodes other
-read_other nodes index other node ne = get_or-set_other nodes index other node nothing_free ne
+read_other nodes index other node ne = grind (arith, get_or-set_other)
 
 -- after the bitmaps no word is free
 pub word_past : (bits : List ℕ) (word : ℕ) → 64 * length bits ≤ word → word_at bits word ≡ false
-word_past bits word past =
-    ap (λ n. is_set n (word % 64)) (get_or_past bits (word / 64) 0 (omega arith))
-    ∙ ap (λ b. eqb b 1) (bit_at-zero (word % 64))
+word_past bits word past = grind (arith, get_or_past, bit_at-zero)

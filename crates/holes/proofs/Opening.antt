@@ -15,10 +15,9 @@ use Rattle.holes.proofs.Nodes.{above_is, span, same_height, alike_words, leaf_is
 use Rattle.holes.proofs.Trees.{pow_eight, tree_opened}
 
 -- the node of a block
-pub block_node : (top leaf : ℕ) → 3 ≤ top → IsNode top 0 leaf → IsNode top 3 (leaf / 8)
+pub block_node : {top leaf : ℕ} → 3 ≤ top → IsNode top 0 leaf → IsNode top 3 (leaf / 8)
 unfolding above
-block_node top leaf tall is =
-    subst (IsNode top 3) (let e : leaf / 2 / 2 / 2 ≡ leaf / 8 = omega arith in e) (above_is top 3 leaf is tall)
+block_node {top} {leaf} tall is = grind (arith, above_is top 3 leaf is tall)
 
 block_first : (block : ℕ) → first_leaf 3 block ≡ 8 * block
 unfolding first_leaf
@@ -36,17 +35,17 @@ all_alike words true word lt all which =
 all_alike words false word lt all which = elim which [
   | inl e ↦ absurd (true≢false (sym e))
   | inr none ↦ elim (cases_Bool (is_free words word)) [
-    | inl free ↦ absurd (omega (arith, word_run words word free, run-le-widest word words))
+    | inl free ↦ grind (arith, word_run words word free, run-le-widest word words)
     | inr taken ↦ taken
   ]
 ]
 
 -- a block whose node says that all words are free, or none is
-pub block_alike : (bits : List ℕ) (nodes : List Summary) (top block : ℕ) → IsNode top 3 block →
-    IsRight bits nodes top 3 block → ((node_at nodes block).whole ≡ true) ⊎ ((node_at nodes block).longest ≡ 0) →
-    (word : ℕ) → (2 ^ top + word / 256) / 8 ≡ block → word_at bits word ≡ (node_at nodes block).whole
+pub block_alike : (bits : List ℕ) (nodes : List Summary) {top block : ℕ} → IsNode top 3 block → IsRight bits nodes top
+    3 block → ((node_at nodes block).whole ≡ true) ⊎ ((node_at nodes block).longest ≡ 0) → (word : ℕ) → (2 ^ top +
+    word / 256) / 8 ≡ block → word_at bits word ≡ (node_at nodes block).whole
 unfolding node_words
-block_alike bits nodes top block is right which word at =
+block_alike bits nodes {top} {block} is right which word at =
     let here = span top 3 block is in
     let start = 256 * (first_leaf 3 block - 2 ^ top) in
     let words = node_words bits top 3 block in
@@ -54,25 +53,27 @@ block_alike bits nodes top block is right which word at =
     let whole : (node_at nodes block).whole ≡ all_free words = ap (λ (n : Summary). n.whole) right in
     let longest : (node_at nodes block).longest ≡ widest words = ap (λ (n : Summary). n.longest) right in
     let within : word - start < 256 * width 3 = omega (arith, block_first block, block_width, here.from) in
-    let place : start + (word - start) ≡ word = omega (arith, block_first block, here.from) in
-    sym (ap (word_at bits) place)
-    ∙ (sym (word_in (word_at bits) start (256 * width 3) (word - start) within)
-    ∙ all_alike words (node_at nodes block).whole (word - start) (omega (arith, len)) (sym whole) (elim which [
-      | inl e ↦ inl e
-      | inr e ↦ inr (omega (arith, longest))
-    ]))
+    grind (
+      arith,
+      block_first block,
+      word_in (word_at bits) start (256 * width 3) (word - start) within,
+      all_alike words (node_at nodes block).whole (word - start) (omega (
+        arith,
+        len,
+      )) (sym whole) (elim which [ inl e ↦ inl e | inr e ↦ inr (omega (arith, longest)) ]),
+    )
 
 -- the node of a block whose words are alike says so
-pub alike_node : (bits : List ℕ) (nodes : List Summary) (top block : ℕ) → IsNode top 3 block →
-    IsRight bits nodes top 3 block → IsAlike bits top (8 * block) →
-    ((node_at nodes block).whole ≡ true) ⊎ ((node_at nodes block).longest ≡ 0)
-alike_node bits nodes top block is right alike =
+pub alike_node : (bits : List ℕ) (nodes : List Summary) {top block : ℕ} → IsNode top 3 block → IsRight bits nodes top
+    3 block → IsAlike bits top (8 * block) → ((node_at nodes block).whole ≡ true) ⊎ ((node_at nodes block).longest ≡
+    0)
+alike_node bits nodes {top} {block} is right alike =
     let same : IsAlike bits top (first_leaf 3 block) = subst (IsAlike bits top) (sym (block_first block)) alike in
-    let node = right ∙ (ap summary (alike_words bits top 3 block same is (omega arith))
+    let node = right ∙ (ap summary (alike_words bits same is (omega arith))
     ∙ summary_all (256 * width 3) same.0 (omega (arith, block_width))) in
     elim (cases_Bool same.0) [
-      | inl all ↦ inl (ap (λ (n : Summary). n.whole) node ∙ whole_of (256 * width 3) same.0 all)
-      | inr none ↦ inr (ap (λ (n : Summary). n.longest) node ∙ longest_of (256 * width 3) same.0 none)
+      | inl all ↦ grind arith
+      | inr none ↦ grind arith
     ]
   where
     whole_of : (n : ℕ) (value : Bool) → value ≡ true →
@@ -86,33 +87,15 @@ alike_node bits nodes top block is right alike =
     longest_of n false e = refl
 
 -- the nodes below a block
-below_block : (top block height index : ℕ) → IsNode top 3 block → (height ≡ 0) × (index / 8 ≡ block)
-    ⊎ (height ≡ 1) × (index / 4 ≡ block) ⊎ (height ≡ 2) × (index / 2 ≡ block) → IsNode top height index
-below_block top block height index is which =
+below_block : {top block height index : ℕ} → IsNode top 3 block → (height ≡ 0) × (index / 8 ≡ block) ⊎ (height ≡ 1) ×
+    (index / 4 ≡ block) ⊎ (height ≡ 2) × (index / 2 ≡ block) → IsNode top height index
+below_block is which =
     let one : 2 ^ suc is.depth ≡ 2 * 2 ^ is.depth = omega arith in
     let two : 2 ^ suc (suc is.depth) ≡ 2 * 2 ^ suc is.depth = omega arith in
     let three : 2 ^ suc (suc (suc is.depth)) ≡ 2 * 2 ^ suc (suc is.depth) = omega arith in
     elim which [
-      | inl e ↦ record {
-        depth = suc (suc (suc is.depth));
-        at = omega (arith, e.0, is.at);
-        from = omega (arith, e.1, is.from, one, two, three);
-        to = omega (arith, e.1, is.to, one, two, three);
-      }
-      | inr more ↦ elim more [
-        | inl e ↦ record {
-          depth = suc (suc is.depth);
-          at = omega (arith, e.0, is.at);
-          from = omega (arith, e.1, is.from, one, two);
-          to = omega (arith, e.1, is.to, one, two);
-        }
-        | inr e ↦ record {
-          depth = suc is.depth;
-          at = omega (arith, e.0, is.at);
-          from = omega (arith, e.1, is.from, one);
-          to = omega (arith, e.1, is.to, one);
-        }
-      ]
+      | inl e ↦ grind arith
+      | inr more ↦ grind arith
     ]
 
 -- a low node of a block is among those below it
@@ -128,64 +111,35 @@ in_block (suc (suc (suc low))) index block lt at not_leaf not_pair not_half = ab
 first_of : (height index block : ℕ) → (height ≡ 0) × (index / 8 ≡ block) ⊎ (height ≡ 1) × (index / 4 ≡ block)
     ⊎ (height ≡ 2) × (index / 2 ≡ block) → (first_leaf height index / 8 ≡ block) × (height < 3)
 unfolding first_leaf
-first_of zero index block which = elim which [
-  | inl e ↦ (e.1, omega arith)
-  | inr more ↦ elim more [
-    | inl e ↦ absurd (omega (arith, e.0))
-    | inr e ↦ absurd (omega (arith, e.0))
-  ]
-]
-first_of (suc zero) index block which = elim which [
-  | inl e ↦ absurd (omega (arith, e.0))
-  | inr more ↦ elim more [
-    | inl e ↦ (omega (arith, e.1), omega arith)
-    | inr e ↦ absurd (omega (arith, e.0))
-  ]
-]
-first_of (suc (suc zero)) index block which = elim which [
-  | inl e ↦ absurd (omega (arith, e.0))
-  | inr more ↦ elim more [
-    | inl e ↦ absurd (omega (arith, e.0))
-    | inr e ↦ (omega (arith, e.1), omega arith)
-  ]
-]
-first_of (suc (suc (suc height))) index block which = elim which [
-  | inl e ↦ absurd (omega (arith, e.0))
-  | inr more ↦ elim more [
-    | inl e ↦ absurd (omega (arith, e.0))
-    | inr e ↦ absurd (omega (arith, e.0))
-  ]
-]
+first_of zero index block which = omega arith
+first_of (suc zero) index block which = omega arith
+first_of (suc (suc zero)) index block which = omega arith
+first_of (suc (suc (suc height))) index block which = omega arith
 
 widths : (width 0 ≡ 1) × (width 1 ≡ 2) × (width 2 ≡ 4)
 unfolding width
 widths = (refl, refl, refl)
 
 -- a node below a block that was written
-written_right : (bits : List ℕ) (nodes : List Summary) (top block height low index count : ℕ) (value : Bool) →
-    IsNode top 3 block → ((word : ℕ) → (2 ^ top + word / 256) / 8 ≡ block → word_at bits word ≡ value) →
-    IsNode top low index → (height ≡ 0) × (index / 8 ≡ block) ⊎ (height ≡ 1) × (index / 4 ≡ block)
-    ⊎ (height ≡ 2) × (index / 2 ≡ block) → count ≡ 256 * width height →
-    node_at nodes index ≡ summary (replicate count value) → IsRight bits nodes top low index
-written_right bits nodes top block height low index count value block_is words is which count_is node =
-    let here = below_block top block height index block_is which in
-    let same : low ≡ height = same_height top low height index is here in
+written_right : (bits : List ℕ) (nodes : List Summary) {top block : ℕ} (height : ℕ) {low index : ℕ} (count : ℕ) (value
+    : Bool) → IsNode top 3 block → ((word : ℕ) → (2 ^ top + word / 256) / 8 ≡ block → word_at bits word ≡ value) →
+    IsNode top low index → (height ≡ 0) × (index / 8 ≡ block) ⊎ (height ≡ 1) × (index / 4 ≡ block) ⊎ (height ≡ 2) ×
+    (index / 2 ≡ block) → count ≡ 256 * width height → node_at nodes index ≡ summary (replicate count value) → IsRight
+    bits nodes top low index
+written_right bits nodes {top} {block} height {low} {index} count value block_is words is which count_is node =
+    let here = below_block block_is which in
+    let same : low ≡ height = same_height is here in
     let first = first_of height index block which in
     let alike : IsAlike bits top (first_leaf height index) = (value, (λ word at. words word (at ∙ first.0))) in
     subst (λ n. IsRight bits nodes top n index) (sym same)
     (node ∙ (ap (λ n. summary (replicate n value)) count_is
-    ∙ sym (ap summary (alike_words bits top height index alike here (omega (arith, first.1))))))
+    ∙ sym (ap summary (alike_words bits alike here (omega (arith, first.1))))))
 
 -- the nodes below the block of a leaf are among those of the tree
 pub block_within : (nodes : List Summary) (leaf : ℕ) → leaf < leaf_count nodes → length nodes ≡ 2 * leaf_count nodes →
     IsPowerOfTwo (leaf_count nodes) → 1 ≤ (leaf_count nodes + leaf) / 8 →
     8 * ((leaf_count nodes + leaf) / 8) + 8 ≤ length nodes
-block_within nodes leaf within even power some =
-    let eight = pow_eight power.0 (elim (cases_lt power.0 3) [
-      | inl short ↦ absurd (omega (arith, power.1, pow_le power.0 2 (omega arith)))
-      | inr ge ↦ ge
-    ]) in
-    omega (arith, power.1, eight)
+block_within nodes leaf within even power some = grind (arith, pow_eight, pow_le)
 
 three_low : 3 < 3 → ⊥
 three_low lt = absurd (omega arith)
@@ -193,11 +147,10 @@ three_low lt = absurd (omega arith)
 either : {A : Type 0} → A ⊎ A → A
 either which = elim which [ inl a ↦ a | inr a ↦ a ]
 
-pub opened : (old new : List Summary) (leaf block : ℕ) → leaf < leaf_count old →
-    block ≡ (leaf_count old + leaf) / 8 → 1 ≤ block →
-    ((node_at old block).whole ≡ true) ⊎ ((node_at old block).longest ≡ 0) →
-    IsBlockWritten old new block (node_at old block).whole → AreOpened old new leaf leaf
-opened old new leaf block within block_is some alike written bits tree low index is which =
+pub opened : {old new : List Summary} (leaf : ℕ) {block : ℕ} → leaf < leaf_count old → block ≡ (leaf_count old + leaf)
+    / 8 → 1 ≤ block → ((node_at old block).whole ≡ true) ⊎ ((node_at old block).longest ≡ 0) → IsBlockWritten old new
+    block (node_at old block).whole → AreOpened old new leaf leaf
+opened {old} {new} leaf {block} within block_is some alike written bits tree low index is which =
     let top = tree.height in
     let value = (node_at old block).whole in
     let count : leaf_count old ≡ 2 ^ top = omega (arith, tree.node_count) in
@@ -205,21 +158,20 @@ opened old new leaf block within block_is some alike written bits tree low index
       | inl short ↦ absurd (omega (arith, pow_le top 2 (omega arith)))
       | inr ge ↦ ge
     ] in
-    let node : IsNode top 3 block = subst (IsNode top 3) (sym block_is)
-    (block_node top (leaf_count old + leaf) tall (leaf_is top (leaf_count old + leaf) (omega arith) (omega arith))) in
+    let node : IsNode top 3 block = grind (arith, block_node, leaf_is) in
     let right : IsRight bits old top 3 block = elim (tree.is_right 3 block node) [
       | inl r ↦ r
       | inr hide ↦ absurd (three_low hide.low)
     ] in
-    let words = block_alike bits old top block node right alike in
+    let words = block_alike bits old node right alike in
     elim (cases_eq (index / 8) block) [
-      | inl at ↦ written_right bits new top block 0 low index 256 value node words is (inl (refl, at))
+      | inl at ↦ written_right bits new 0 256 value node words is (inl (refl, at))
           (omega (arith, widths.0)) (written.leaves index at)
       | inr not_leaf ↦ elim (cases_eq (index / 4) block) [
-        | inl at ↦ written_right bits new top block 1 low index 512 value node words is (inr (inl (refl, at)))
+        | inl at ↦ written_right bits new 1 512 value node words is (inr (inl (refl, at)))
             (omega (arith, widths.1)) (written.pairs index at)
         | inr not_pair ↦ elim (cases_eq (index / 2) block) [
-          | inl at ↦ written_right bits new top block 2 low index 1024 value node words is (inr (inr (refl, at)))
+          | inl at ↦ written_right bits new 2 1024 value node words is (inr (inr (refl, at)))
               (omega (arith, widths.2)) (written.halves index at)
           | inr not_half ↦ written.outside index not_leaf not_pair not_half ∙ elim which [
             | inl r ↦ r
@@ -245,7 +197,7 @@ open_already nodes leaf block within block_is mixed bits tree low index is which
         let top = tree.height in
         let count : leaf_count nodes ≡ 2 ^ top = omega (arith, tree.node_count) in
         let node : IsNode top 3 block = subst (IsNode top 3) (sym block_is)
-        (block_node top (leaf_count nodes + leaf) h.tall
+        (block_node h.tall
         (leaf_is top (leaf_count nodes + leaf) (omega arith) (omega arith))) in
         let right : IsRight bits nodes top 3 block = elim (tree.is_right 3 block node) [
           | inl r ↦ r
@@ -254,7 +206,7 @@ open_already nodes leaf block within block_is mixed bits tree low index is which
         let eight = pow_le 3 top h.tall in
         let same = either at in
         let alike : IsAlike bits top (8 * block) = (h.alike.0, (λ word here. h.alike.1 word (omega arith))) in
-        absurd (mixed (omega arith) (alike_node bits nodes top block node right alike))
+        absurd (mixed (omega arith) (alike_node bits nodes node right alike))
   ]
 ]
 
@@ -262,14 +214,7 @@ open_already nodes leaf block within block_is mixed bits tree low index is which
 pub opened_two : (old new : List Summary) (first last : ℕ) → first ≤ last → last < leaf_count old →
     IsPowerOfTwo (leaf_count old) → first / 8 ≡ last / 8 → AreOpened old new first first → AreOpened old new first last
 opened_two old new first last order within power same opens bits tree low index is which =
-    let block : (leaf_count old + last) / 8 ≡ (leaf_count old + first) / 8 = elim (cases_lt power.0 3) [
-      | inl short ↦ omega (arith, power.1, pow_le power.0 2 (omega arith))
-      | inr tall ↦ omega (arith, power.1, pow_eight power.0 tall)
-    ] in
-    opens bits tree low index is (elim which [
-      | inl r ↦ inl r
-      | inr at ↦ inr (inl (elim at [ inl b ↦ b | inr b ↦ b ∙ block ]))
-    ])
+    grind (arith, pow_le, pow_eight)
 
 -- two blocks, one after the other
 pub opened_both : (old middle new : List Summary) (first last : ℕ) → length middle ≡ length old →

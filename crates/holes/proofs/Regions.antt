@@ -1,9 +1,8 @@
 -- The words of a region, which are the first of its bitmaps' words.
-use Rattle.std.proofs.Common.{◌≡◌, ℕ, ◌+◌, ◌-◌, ◌*◌, ◌/◌, ◌%◌, ◌<◌, ◌≤◌, Bool, true, false, cond, eqb}
+use Rattle.std.proofs.Common.{◌≡◌, ℕ, ◌+◌, ◌-◌, ◌*◌, ◌<◌, ◌≤◌, Bool, true, false, cond}
 use Rattle.std.proofs.Common.{List, ◌++◌, ◌^◌, length, take, get_or, Option, Some, None, IsNone, IfSome}
-use Rattle.std.proofs.Common.{refl, sym, ◌∙◌, ap, subst, inl, inr, arith, zero, suc}
+use Rattle.std.proofs.Common.{refl, sym, ◌∙◌, ap, subst, inl, inr, arith, zero, suc, rules}
 use Rattle.std.specs.Prelude.{replicate}
-use Rattle.std.specs.Int.{bit_at}
 use Rattle.holes.specs.declared.summary.Summary.{Summary}
 use Rattle.holes.specs.declared.tree.Changed.{Changed}
 use Rattle.std.proofs.lemmas.Bool.{true≢false, cases_lt}
@@ -12,9 +11,9 @@ use Rattle.std.proofs.lemmas.Nat.{pow_pos}
 use Rattle.std.proofs.lemmas.Nat.Bits.{bit_at-zero}
 use Rattle.holes.specs.FreeWords.{Region, is_free, AllFree, NoneFree, IsLowestFit, set_range, free_from}
 use Rattle.holes.specs.FreeWords.{free_count, hole_count, widest}
-use Rattle.holes.specs.Tree.{words_from, word_at, words_of, lowest_fit, nothing_free, summary, node_at}
+use Rattle.holes.specs.Tree.{words_from, word_at, words_of, lowest_fit, nothing_free, node_at}
 use Rattle.holes.specs.Tree.{NoneBelow, NoneBelowBeside, IsFilled, IsTree, IsTreeBeside, IsHoles}
-use Rattle.holes.specs.Tree.{IsPowerOfTwo, node_words, first_leaf, width}
+use Rattle.holes.specs.Tree.{IsPowerOfTwo, node_words, width}
 use Rattle.holes.proofs.Ranges.{last_of, free_count_given, free_count-le-length, free_count-false}
 use Rattle.holes.proofs.Ranges.{free_count-free_from, hole_count_after-false, set_range_same}
 use Rattle.holes.proofs.Ranges.{length-set_range, set_range_inside, set_range_before, set_range_behind}
@@ -34,140 +33,89 @@ region_words : (bits : List ℕ) (size : ℕ) → size ≤ 64 * length bits → 
     words_of bits ≡ words_from (word_at bits) 0 size ++ replicate (64 * length bits - size) false
 region_words bits size within none =
     let rest = 64 * length bits - size in
-    ap (words_from (word_at bits) 0) (let e : 64 * length bits ≡ size + rest = omega arith in e)
-    ∙ (words_from-add (word_at bits) 0 size rest
-    ∙ ap (λ (words : List Bool). words_from (word_at bits) 0 size ++ words)
-    (all_words (word_at bits) (0 + size) rest false (λ word lt. none ((0 + size) + word) (omega arith) (omega arith))))
+    grind (
+      arith,
+      words_from-add (word_at bits) 0 size rest,
+      all_words (word_at bits) (0 + size) rest false
+          (λ word lt. none ((0 + size) + word) (omega arith) (omega arith)),
+    )
 
 pub region_widest : (bits : List ℕ) (size : ℕ) → size ≤ 64 * length bits → NoneFrom bits size →
     widest (words_of bits) ≡ widest (words_from (word_at bits) 0 size)
 region_widest bits size within none =
-    ap widest (region_words bits size within none) ∙ widest_behind (words_from (word_at bits) 0 size)
-    (64 * length bits - size)
+    cc (region_words bits size within none, widest_behind (words_from (word_at bits) 0 size) (64 * length bits - size))
 
 pub region_lowest : (bits : List ℕ) (size len : ℕ) → size ≤ 64 * length bits → NoneFrom bits size → 1 ≤ len →
     len ≤ widest (words_from (word_at bits) 0 size) →
     lowest_fit len (words_of bits) ≡ lowest_fit len (words_from (word_at bits) 0 size)
 region_lowest bits size len within none some fits =
-    ap (lowest_fit len) (region_words bits size within none)
-    ∙ lowest-append_left len (words_from (word_at bits) 0 size) (replicate (64 * length bits - size) false) some fits
+    cc (
+      region_words bits size within none,
+      lowest-append_left len (words_from (word_at bits) 0 size)
+          (replicate (64 * length bits - size) false) some fits,
+    )
 
 -- the words after a range was filled
-pub filled_words : (old new : List ℕ) (size place len : ℕ) (value : Bool) → size ≤ 64 * length old →
-    place + len ≤ size → IsFilled old new place len value →
-    words_from (word_at new) 0 size ≡ set_range (words_from (word_at old) 0 size) place len value
-filled_words old new size place len value within range filled =
-    let before = words_from (word_at old) 0 size in
-    let count : length before ≡ size = length-words (word_at old) 0 size in
-    let all : length (words_from (word_at new) 0 size) ≡ size = length-words (word_at new) 0 size in
-    same_words (words_from (word_at new) 0 size) (set_range before place len value)
-    (omega (arith, length-set_range before place len value (omega arith)))
-    (λ word lt.
-    let inside : word < size = omega arith in
-    let new_is : is_free (words_from (word_at new) 0 size) word ≡ word_at new (0 + word) =
-    word_in (word_at new) 0 size word inside in
-    let old_is : is_free before word ≡ word_at old (0 + word) = word_in (word_at old) 0 size word inside in
-    new_is ∙ elim (cases_lt word place) [
-      | inl below ↦ filled.before (0 + word) (omega arith) ∙ (sym old_is ∙ sym (set_range_before before place len value
-          word (omega arith) below))
-      | inr from ↦ elim (cases_lt word (place + len)) [
-        | inl within_range ↦ filled.inside (0 + word) (omega arith) (omega arith) ∙ sym
-            (set_range_inside before place len value word (omega arith) from within_range)
-        | inr behind ↦ filled.behind (0 + word) (omega arith) (omega arith) ∙ (sym old_is ∙ sym
-            (set_range_behind before place len value word (omega arith) behind))
-      ]
-    ])
+pub filled_words : {old new : List ℕ} (size : ℕ) {place len : ℕ} {value : Bool} → size ≤ 64 * length old → place + len
+    ≤ size → IsFilled old new place len value → words_from (word_at new) 0 size ≡ set_range (words_from (word_at old)
+    0 size) place len value
+filled_words size within range filled =
+    grind (
+      arith,
+      length-words,
+      same_words,
+      length-set_range,
+      word_in,
+      set_range_before,
+      set_range_inside,
+      set_range_behind,
+    )
 
-pub filled_none_from : (old new : List ℕ) (size place len : ℕ) (value : Bool) → place + len ≤ size →
-    IsFilled old new place len value → NoneFrom old size → NoneFrom new size
-filled_none_from old new size place len value range filled none word ge lt =
-    filled.behind word (omega arith) (omega (arith, filled.same_length)) ∙ none word ge
-    (omega (arith, filled.same_length))
+pub filled_none_from : {old new : List ℕ} (size : ℕ) {place len : ℕ} {value : Bool} → place + len ≤ size → IsFilled
+    old new place len value → NoneFrom old size → NoneFrom new size
+filled_none_from size range filled none word ge lt = grind arith
 
 -- the words after the first were taken and the others given
-pub reset_words : (old middle new : List ℕ) (size from : ℕ) → size ≤ 64 * length old → from ≤ size →
-    IsFilled old middle 0 from false → IsFilled middle new from (size - from) true →
-    words_from (word_at new) 0 size ≡ free_from from size
-reset_words old middle new size from within le first second =
-    let count : length (words_from (word_at new) 0 size) ≡ size = length-words (word_at new) 0 size in
-    same_words (words_from (word_at new) 0 size) (free_from from size)
-    (omega (arith, length-free_from from size le))
-    (λ word lt.
-    let inside : word < size = omega arith in
-    word_in (word_at new) 0 size word inside ∙ elim (cases_lt word from) [
-      | inl below ↦ second.before (0 + word) (omega arith) ∙ (first.inside (0 + word) (omega arith) (omega arith)
-          ∙ sym (free_from_below from size word below))
-      | inr above ↦ second.inside (0 + word) (omega arith) (omega arith) ∙ sym
-          (free_from_above from size word above inside)
-    ])
+pub reset_words : {old middle new : List ℕ} (size : ℕ) {from : ℕ} → size ≤ 64 * length old → from ≤ size → IsFilled
+    old middle 0 from false → IsFilled middle new from (size - from) true → words_from (word_at new) 0 size ≡
+    free_from from size
+reset_words size within le first second =
+    grind (arith, length-words, same_words, length-free_from, word_in, free_from_below, free_from_above)
 
 pub same_region : (xs ys : List Bool) (m n : ℕ) → xs ≡ ys → m ≡ n →
     ◌≡◌ {A = Region} (record { free = xs; most = m }) (record { free = ys; most = n })
 same_region xs ys m n words most = cc
 
 zero_at : (n k : ℕ) → get_or {A = ℕ} (replicate n 0) k 0 ≡ 0
-zero_at n k = elim (cases_lt k n) [
-  | inl lt ↦ get_or-replicate {A = ℕ} n k 0 0 lt
-  | inr ge ↦ get_or_past {X = ℕ} (replicate n 0) k 0 (omega (arith, length-replicate {A = ℕ} n 0))
-]
+zero_at n k = grind (arith, get_or-replicate, get_or_past, length-replicate)
 
 none_at : (n k : ℕ) → node_at (replicate n nothing_free) k ≡ nothing_free
-none_at n k = elim (cases_lt k n) [
-  | inl lt ↦ get_or-replicate n k nothing_free nothing_free lt
-  | inr ge ↦ get_or_past (replicate n nothing_free) k nothing_free (omega (arith, length-replicate n nothing_free))
-]
+none_at n k = grind (arith, get_or-replicate, get_or_past, length-replicate)
 
 -- A range that is taken or given.
-pub holes_after : (bits new_bits : List ℕ) (nodes new_nodes : List Summary) (changed new_changed : Changed)
-    (near new_near size free most place len new_free : ℕ) (value : Bool) →
-    IsHoles bits nodes changed near size free most →
-    IsTreeBeside new_bits new_nodes new_changed → new_changed.end ≤ new_changed.first + 3 →
-    IsFilled bits new_bits place len value → place + len ≤ size →
-    new_near < length bits → NoneBelow new_bits (64 * new_near) →
-    new_free ≡ free_count (set_range (words_from (word_at bits) 0 size) place len value) →
-    hole_count (set_range (words_from (word_at bits) 0 size) place len value) ≤ most →
-    IsHoles new_bits new_nodes new_changed new_near size new_free most
-holes_after bits new_bits nodes new_nodes changed new_changed near new_near size free most place len new_free value is
-    tree few_changed filled range near_within none_below free_is few =
-    let words = filled_words bits new_bits size place len value is.within range filled in
-    record {
-      tree = tree;
-      few_changed = few_changed;
-      near_within = omega (arith, filled.same_length);
-      none_below = none_below;
-      within = omega (arith, is.within, filled.same_length);
-      behind = filled_none_from bits new_bits size place len value range filled is.behind;
-      free_is = free_is ∙ sym (ap free_count words);
-      few = omega (arith, ap hole_count words);
-      some = is.some;
-    }
+pub holes_after : {bits new_bits : List ℕ} {nodes new_nodes : List Summary} {changed new_changed : Changed} {near
+    new_near size free most place len new_free : ℕ} {value : Bool} → IsHoles bits nodes changed near size free most →
+    IsTreeBeside new_bits new_nodes new_changed → new_changed.end ≤ new_changed.first + 3 → IsFilled bits new_bits
+    place len value → place + len ≤ size → new_near < length bits → NoneBelow new_bits (64 * new_near) → new_free ≡
+    free_count (set_range (words_from (word_at bits) 0 size) place len value) → hole_count (set_range (words_from
+    (word_at bits) 0 size) place len value) ≤ most → IsHoles new_bits new_nodes new_changed new_near size new_free
+    most
+holes_after is tree few_changed filled range near_within none_below free_is few =
+    search (rules, filled_words, filled_none_from)
 
 -- the place below which no word is free, after words were taken
-pub taken_low : (old new : List ℕ) (low place len : ℕ) → low ≤ 64 * length old → IsFilled old new place len false →
-    NoneBelowBeside old low place len → NoneBelow new low
-taken_low old new low place len within filled none word lt = elim (cases_lt word place) [
-  | inl below ↦ elim (none word lt) [
-    | inl taken ↦ filled.before word below ∙ taken
-    | inr inside ↦ absurd (omega (arith, inside.0))
-  ]
-  | inr from ↦ elim (cases_lt word (place + len)) [
-    | inl inside ↦ filled.inside word from inside
-    | inr behind ↦ elim (none word lt) [
-      | inl taken ↦ filled.behind word behind (omega arith) ∙ taken
-      | inr inside ↦ absurd (omega (arith, inside.1))
-    ]
-  ]
-]
+pub taken_low : {old new : List ℕ} (low : ℕ) {place len : ℕ} → low ≤ 64 * length old → IsFilled old new place len
+    false → NoneBelowBeside old low place len → NoneBelow new low
+taken_low low within filled none word lt = grind arith
 
 -- if none was free before, those that are taken don't matter
 pub none_beside : (bits : List ℕ) (low place len : ℕ) → NoneBelow bits low → NoneBelowBeside bits low place len
 none_beside bits low place len none word lt = inl (none word lt)
 
 -- after words were given
-pub given_low : (old new : List ℕ) (low new_low place len : ℕ) → IsFilled old new place len true → NoneBelow old low →
-    new_low ≤ low → new_low ≤ place → NoneBelow new new_low
-given_low old new low new_low place len filled none le_low le_place word lt =
-    filled.before word (omega arith) ∙ none word (omega arith)
+pub given_low : {old new : List ℕ} (low new_low : ℕ) {place len : ℕ} → IsFilled old new place len true → NoneBelow old
+    low → new_low ≤ low → new_low ≤ place → NoneBelow new new_low
+given_low low new_low filled none le_low le_place word lt = grind arith
 
 -- what is known of the lowest fit
 pub record Takes (bits : List ℕ) (size len place : ℕ) : Type 0 where
@@ -179,37 +127,28 @@ pub record Takes (bits : List ℕ) (size len place : ℕ) : Type 0 where
 last_before : (free : List Bool) (place : ℕ) → place ≤ length free →
     ((word : ℕ) → word + 1 ≡ place → is_free free word ≡ false) → last_of false (take place free) ≡ false
 last_before free zero within none = refl
-last_before free (suc place) within none = last_taken false free place (omega arith) ∙ none place (omega arith)
+last_before free (suc place) within none = grind (arith, last_taken)
 
 pub takes : (bits : List ℕ) (size len place : ℕ) → size ≤ 64 * length bits → NoneFrom bits size → 1 ≤ len →
     len ≤ widest (words_of bits) → place ≡ lowest_fit len (words_of bits) → Takes bits size len place
 takes bits size len place within none some fits is =
     let words = words_from (word_at bits) 0 size in
     let wide : len ≤ widest words = omega (arith, region_widest bits size within none) in
-    let at : lowest_fit len words ≡ place = sym (is ∙ region_lowest bits size len within none some wide) in
-    let lowest : IsLowestFit words len place = subst (IsLowestFit words len) at (lowest_is_lowest len words some
-    wide) in
-    let range : place + len ≤ size =
-    omega (arith, lowest_within len words some wide, length-words (word_at bits) 0 size) in
-    record {
-      lowest = lowest;
-      within = range;
-      all = λ word ge lt. lowest.hole.inside word ge (omega (arith, lowest.fits));
-      before = last_before words place (omega (arith, length-words (word_at bits) 0 size)) lowest.hole.before;
-    }
+    let at : lowest_fit len words ≡ place = omega (arith, region_lowest) in
+    let lowest : IsLowestFit words len place = grind (arith, lowest_is_lowest) in
+    grind (arith, lowest_within, length-words, last_before)
 
 cond_most : (b : Bool) → (cond b 1 0 ≤ 1) × (cond b 0 1 ≤ 1)
 cond_most true = (omega arith, omega arith)
 cond_most false = (omega arith, omega arith)
 
 -- there are no more holes when they were taken
-pub takes_few : (bits : List ℕ) (size len place : ℕ) → 1 ≤ len → Takes bits size len place →
-    hole_count (set_range (words_from (word_at bits) 0 size) place len false)
-    ≤ hole_count (words_from (word_at bits) 0 size)
-takes_few bits size len place some t =
+pub takes_few : {bits : List ℕ} {size len place : ℕ} → 1 ≤ len → Takes bits size len place → hole_count (set_range
+    (words_from (word_at bits) 0 size) place len false) ≤ hole_count (words_from (word_at bits) 0 size)
+takes_few {bits} {size} {len} {place} some t =
     let words = words_from (word_at bits) 0 size in
     let same : set_range words place len true ≡ words =
-    set_range_same words place len true (omega (arith, t.within, length-words (word_at bits) 0 size)) t.all in
+    grind (arith, set_range_same, length-words) in
     let one : ◌≡◌ {A = ℕ} (cond (last_of false (take place words)) 0 1) 1 = ap {B = ℕ} (λ (b : Bool). cond b 0 1)
     t.before in
     omega (
@@ -226,40 +165,19 @@ pub gives_few : (bits : List ℕ) (size len place : ℕ) → 1 ≤ len → place
     hole_count (set_range (words_from (word_at bits) 0 size) place len true)
     ≤ hole_count (words_from (word_at bits) 0 size) + 1
 gives_few bits size len place some within taken =
-    let words = words_from (word_at bits) 0 size in
-    let same : set_range words place len false ≡ words =
-    set_range_same words place len false (omega (arith, length-words (word_at bits) 0 size)) taken in
-    omega (
-      arith,
-      ap hole_count same,
-      hole_count_changed words place len some,
-      (cond_most (last_of false (take place words))).1,
-    )
+    grind (arith, set_range_same, length-words, hole_count_changed, cond_most)
 
 -- A region without a free word.
 pub no_words : (leaves word : ℕ) → word_at (replicate leaves 0) word ≡ false
-no_words leaves word = ap (λ b. eqb b 1) (ap (λ n. bit_at n (word % 64)) (zero_at leaves (word / 64))
-    ∙ bit_at-zero (word % 64))
+no_words leaves word = grind (arith, zero_at, bit_at-zero)
 
 node_of_none : (n top low index : ℕ) → node_words (replicate n 0) top low index ≡ replicate (256 * width low) false
 unfolding node_words
-node_of_none n top low index =
-    all_words (word_at (replicate n 0)) (256 * (first_leaf low index - 2 ^ top)) (256 * width low) false
-    (λ word lt. no_words n (256 * (first_leaf low index - 2 ^ top) + word))
+node_of_none n top low index = grind (arith, all_words, no_words)
 
 pub tree_of_none : (leaves : ℕ) → IsPowerOfTwo leaves → 256 * leaves < 2 ^ 32 →
     IsTree (replicate (4 * leaves) 0) (replicate (2 * leaves) nothing_free)
-tree_of_none leaves power small =
-    let len : length (replicate (4 * leaves) 0) ≡ 4 * leaves = length-replicate {A = ℕ} (4 * leaves) 0 in
-    record {
-      height = power.0;
-      bitmaps = omega (arith, len, power.1);
-      small = omega (arith, len);
-      node_count = omega (arith, length-replicate (2 * leaves) nothing_free, power.1);
-      is_right = λ low index is. inl (none_at (2 * leaves) index
-          ∙ sym (ap summary (node_of_none (4 * leaves) power.0 low index)
-          ∙ summary_all (256 * width low) false (omega (arith, width-pos low))));
-    }
+tree_of_none leaves power small = grind (arith, length-replicate, none_at, node_of_none, summary_all, width-pos)
 
 pub holes_of_none : (leaves size most : ℕ) → IsPowerOfTwo leaves → 256 * leaves < 2 ^ 32 → size ≤ 256 * leaves →
     1 ≤ most → IsHoles (replicate (4 * leaves) 0) (replicate (2 * leaves) nothing_free)
@@ -268,9 +186,9 @@ holes_of_none leaves size most power small within some =
     let bits : List ℕ = replicate (4 * leaves) 0 in
     let len : length bits ≡ 4 * leaves = length-replicate {A = ℕ} (4 * leaves) 0 in
     let words : words_from (word_at bits) 0 size ≡ replicate size false =
-    all_words (word_at bits) 0 size false (λ word lt. no_words (4 * leaves) (0 + word)) in
+    grind (arith, all_words, no_words) in
     record {
-      tree = beside_none bits (replicate (2 * leaves) nothing_free) (tree_of_none leaves power small);
+      tree = beside_none (tree_of_none leaves power small);
       few_changed = omega arith;
       near_within = omega (arith, power.1, pow_pos power.0);
       none_below = λ word lt. no_words (4 * leaves) word;
@@ -282,41 +200,27 @@ holes_of_none leaves size most power small within some =
     }
 
 -- the same words after the nodes were joined, with none free before another bitmap
-pub holes_joined : (bits : List ℕ) (nodes new : List Summary) (changed : Changed) (near new_near size free most : ℕ) →
-    IsHoles bits nodes changed near size free most → IsTree bits new → new_near < length bits →
-    NoneBelow bits (64 * new_near) → IsHoles bits new (record { first = 0; end = 0 }) new_near size free most
-holes_joined bits nodes new changed near new_near size free most is tree within none = record {
-  tree = beside_none bits new tree;
-  few_changed = omega arith;
-  near_within = within;
-  none_below = none;
-  within = is.within;
-  behind = is.behind;
-  free_is = is.free_is;
-  few = is.few;
-  some = is.some;
-}
+pub holes_joined : {bits : List ℕ} {nodes new : List Summary} {changed : Changed} {near new_near size free most : ℕ} →
+    IsHoles bits nodes changed near size free most → IsTree bits new → new_near < length bits → NoneBelow bits (64 *
+    new_near) → IsHoles bits new (record { first = 0; end = 0 }) new_near size free most
+holes_joined is tree within none = grind (arith, beside_none)
 
 -- what callers see of the words
 pub view_length : (bits : List ℕ) (size most : ℕ) (region : Region) →
     ◌≡◌ {A = Region} (record { free = words_from (word_at bits) 0 size; most = most }) region → length region.free ≡
     size
-view_length bits size most region is =
-    sym (ap (λ (r : Region). length r.free) is) ∙ length-words (word_at bits) 0 size
+view_length bits size most region is = grind (arith, length-words)
 
 pub view_widest : (bits : List ℕ) (size most : ℕ) (region : Region) → size ≤ 64 * length bits → NoneFrom bits size →
     ◌≡◌ {A = Region} (record { free = words_from (word_at bits) 0 size; most = most }) region →
     widest (words_of bits) ≡ widest region.free
-view_widest bits size most region within none is =
-    region_widest bits size within none ∙ ap (λ (r : Region). widest r.free) is
+view_widest bits size most region within none is = grind (arith, region_widest)
 
 pub view_lowest : (bits : List ℕ) (size most len : ℕ) (region : Region) → size ≤ 64 * length bits →
     NoneFrom bits size → 1 ≤ len →
     ◌≡◌ {A = Region} (record { free = words_from (word_at bits) 0 size; most = most }) region →
     len ≤ widest (words_of bits) → lowest_fit len (words_of bits) ≡ lowest_fit len region.free
-view_lowest bits size most len region within none some is fits =
-    region_lowest bits size len within none some (omega (arith, region_widest bits size within none))
-    ∙ ap (λ (r : Region). lowest_fit len r.free) is
+view_lowest bits size most len region within none some is fits = grind (arith, region_lowest, region_widest)
 
 pub view_lowest_if : (found : Option ℕ) (bits : List ℕ) (size most len : ℕ) (region : Region) →
     size ≤ 64 * length bits → NoneFrom bits size → 1 ≤ len →
@@ -338,33 +242,28 @@ pub takes_seen : (bits : List ℕ) (size most len place : ℕ) (region : Region)
     (widest region.free < len → true ≡ false) → place ≡ lowest_fit len region.free → Takes bits size len place
 takes_seen bits size most len place region within none some is long lowest =
     let wide = view_widest bits size most region within none is in
-    let fits : len ≤ widest (words_of bits) = elim (cases_lt (widest region.free) len) [
-      | inl lt ↦ absurd (true≢false (long lt))
-      | inr ge ↦ omega arith
-    ] in
+    let fits : len ≤ widest (words_of bits) = grind arith in
     takes bits size len place within none some fits
     (lowest ∙ sym (view_lowest bits size most len region within none some is fits))
 
 -- Exactly the words from a place on.
-pub holes_reset : (bits middle new : List ℕ) (nodes new_nodes : List Summary) (changed new_changed : Changed)
-    (near new_near size free most from : ℕ) → IsHoles bits nodes changed near size free most →
-    IsTreeBeside new new_nodes new_changed → new_changed.end ≤ new_changed.first + 3 → from ≤ size →
-    IsFilled bits middle 0 from false →
-    IsFilled middle new from (size - from) true → new_near < length bits → 64 * new_near ≤ from →
-    IsHoles new new_nodes new_changed new_near size (size - from) most
-holes_reset bits middle new nodes new_nodes changed new_changed near new_near size free most from is tree
-    few_changed le first second near_within before =
-    let words = reset_words bits middle new size from is.within le first second in
-    let first_none = filled_none_from bits middle size 0 from false (omega arith) first is.behind in
+pub holes_reset : {bits middle new : List ℕ} {nodes new_nodes : List Summary} {changed new_changed : Changed} {near
+    new_near size free most from : ℕ} → IsHoles bits nodes changed near size free most → IsTreeBeside new new_nodes
+    new_changed → new_changed.end ≤ new_changed.first + 3 → from ≤ size → IsFilled bits middle 0 from false → IsFilled
+    middle new from (size - from) true → new_near < length bits → 64 * new_near ≤ from → IsHoles new new_nodes
+    new_changed new_near size (size - from) most
+holes_reset {bits} {middle} {new} {size} {from} is tree few_changed le first second near_within before =
+    let words = reset_words size is.within le first second in
+    let first_none = filled_none_from size (omega arith) first is.behind in
     record {
       tree = tree;
       few_changed = few_changed;
       near_within = omega (arith, first.same_length, second.same_length);
-      none_below = λ word lt. second.before word (omega arith) ∙ first.inside word (omega arith) (omega arith);
+      none_below = grind arith;
       within = omega (arith, is.within, first.same_length, second.same_length);
-      behind = filled_none_from middle new size from (size - from) true (omega arith) second first_none;
+      behind = filled_none_from size (omega arith) second first_none;
       free_is = sym (ap free_count words ∙ free_count-free_from from size);
-      few = omega (arith, is.some, (cond_most (eqb (size - from) 0)).1, ap hole_count words, hole_count_from from size);
+      few = grind (arith, cond_most, hole_count_from);
       some = is.some;
     }
 
@@ -376,46 +275,35 @@ pub record Gives (bits : List ℕ) (size free most place len : ℕ) : Type 0 whe
   pub free_within : free + len ≤ size
   pub few : hole_count (set_range (words_from (word_at bits) 0 size) place len true) ≤ most
 
-pub gives : (bits : List ℕ) (nodes : List Summary) (changed : Changed) (near size free most place len : ℕ)
-    (region : Region) → IsHoles bits nodes changed near size free most →
-    ◌≡◌ {A = Region} (record { free = words_from (word_at bits) 0 size; most = most }) region → 1 ≤ len →
-    place + len ≤ length region.free → NoneFree region.free place len → hole_count region.free < region.most →
-    Gives bits size free most place len
-gives bits nodes changed near size free most place len region is view some within none room =
+pub gives : {bits : List ℕ} {nodes : List Summary} {changed : Changed} {near size free most place len : ℕ} (region :
+    Region) → IsHoles bits nodes changed near size free most → ◌≡◌ {A = Region} (record {
+      free = words_from (word_at
+          bits) 0 size;
+      most = most;
+    }) region → 1 ≤ len → place + len ≤ length region.free → NoneFree region.free place len
+    → hole_count region.free < region.most → Gives bits size free most place len
+gives {bits} {size} {free} {most} {place} {len} region is view some within none room =
     let words = words_from (word_at bits) 0 size in
     let all : length words ≡ size = length-words (word_at bits) 0 size in
     let range : place + len ≤ size = omega (arith, view_length bits size most region view) in
     let taken : NoneFree words place len = subst (λ (r : Region). NoneFree r.free place len) (sym view) none in
     let free_is : free + len ≡ free_count (set_range words place len true) =
-    sym (free_count_given words place len (omega arith) taken ∙ ap (λ n. n + len) (sym is.free_is)) in
+    omega (arith, free_count_given) in
     record {
       within = range;
       taken = taken;
       free_is = free_is;
-      free_within = omega (
-        arith,
-        free_count-le-length (set_range words place len true),
-        length-set_range words place len true (omega arith),
-      );
-      few = omega (
-        arith,
-        gives_few bits size len place some range taken,
-        ap (λ (r : Region). hole_count r.free) view,
-        ap (λ (r : Region). r.most) view,
-      );
+      free_within = omega (arith, free_count-le-length, length-set_range);
+      few = grind (arith, gives_few);
     }
 
 -- a tree of the same bitmaps and nodes
 pub same_tree : (bits other_bits : List ℕ) (nodes other_nodes : List Summary) → bits ≡ other_bits →
     nodes ≡ other_nodes → IsTree bits nodes → IsTree other_bits other_nodes
-same_tree bits other_bits nodes other_nodes same_bits same_nodes tree =
-    subst (λ (list : List ℕ). IsTree list other_nodes) same_bits
-    (subst (λ (list : List Summary). IsTree bits list) same_nodes tree)
+same_tree bits other_bits nodes other_nodes same_bits same_nodes tree = grind arith
 
 -- holes of the same bitmaps and nodes
-pub same_holes : (bits other_bits : List ℕ) (nodes other_nodes : List Summary) (changed : Changed)
-    (near size free most : ℕ) → other_bits ≡ bits → other_nodes ≡ nodes →
-    IsHoles bits nodes changed near size free most → IsHoles other_bits other_nodes changed near size free most
-same_holes bits other_bits nodes other_nodes changed near size free most same_bits same_nodes is =
-    subst (λ (list : List ℕ). IsHoles list other_nodes changed near size free most) (sym same_bits)
-    (subst (λ (list : List Summary). IsHoles bits list changed near size free most) (sym same_nodes) is)
+pub same_holes : {bits other_bits : List ℕ} {nodes other_nodes : List Summary} {changed : Changed} {near size free
+    most : ℕ} → other_bits ≡ bits → other_nodes ≡ nodes → IsHoles bits nodes changed near size free most → IsHoles
+    other_bits other_nodes changed near size free most
+same_holes same_bits same_nodes is = grind arith

@@ -1,6 +1,6 @@
 -- The nodes between two leaves, or below a block, of which all words are free, or none is.
 use Rattle.std.proofs.Common.{◌≡◌, ◌≢◌, ℕ, ◌+◌, ◌*◌, ◌/◌, ◌^◌, ◌<◌, ◌≤◌, Bool, List, ◌⊎◌}
-use Rattle.std.proofs.Common.{refl, sym, ◌∙◌, ap, subst, inl, inr, arith, zero, suc}
+use Rattle.std.proofs.Common.{refl, sym, ◌∙◌, subst, inl, inr, arith, zero, suc}
 use Rattle.std.specs.Prelude.{replicate}
 use Rattle.std.proofs.lemmas.Bool.{cases_lt, cases_eq}
 use Rattle.std.proofs.lemmas.List.{length-replicate, replicate-append-replicate}
@@ -58,9 +58,11 @@ width_twice height = refl
 pub doubled : (n : ℕ) (value : Bool) (node : Summary) → n + n < 2 ^ 32 → node ≡ summary (replicate n value) →
     join node node ≡ summary (replicate (n + n) value)
 doubled n value node small is =
-    ap (λ (s : Summary). join s s) is
-    ∙ (sym (summary-append (replicate n value) (replicate n value) (omega (arith, length-replicate n value)))
-    ∙ ap summary (replicate-append-replicate n n value))
+    cc (
+      summary-append (replicate n value) (replicate n value) (omega (arith, length-replicate n value)),
+      length-replicate n value,
+      replicate-append-replicate n n value,
+    )
 
 -- the nodes between, up to a height
 pub record AreWrittenUnder (old new : List Summary) (top height left right : ℕ) (value : Bool) : Type 0 where
@@ -74,19 +76,16 @@ pub record AreWrittenUnder (old new : List Summary) (top height left right : ℕ
 
 pub none_under : (nodes : List Summary) (top left right : ℕ) (value : Bool) →
     AreWrittenUnder nodes nodes top 0 left right value
-none_under nodes top left right value = record {
-  outside = λ low index is out. refl;
-  inside = λ low index lt. absurd (omega arith);
-}
+none_under nodes top left right value = grind arith
 
 -- a node that isn't written near the ends lies below another block than these
 far : (height left right index : ℕ) → 2 ≤ side_at height → above height left + side_at height ≤ index →
     index + side_at height ≤ above height right → (height < 3) × IsBlockBeside (first_leaf height index) left (left + 1)
     × IsBlockBeside (first_leaf height index) right (right + 1)
 unfolding above first_leaf side_at
-far zero left right index side from to = (omega arith, inr (omega arith), inl (omega arith))
-far (suc zero) left right index side from to = (omega arith, inr (omega arith), inl (omega arith))
-far (suc (suc zero)) left right index side from to = (omega arith, inr (omega arith), inl (omega arith))
+far zero left right index side from to = grind arith
+far (suc zero) left right index side from to = grind arith
+far (suc (suc zero)) left right index side from to = grind arith
 far (suc (suc (suc zero))) left right index side from to = absurd (omega arith)
 far (suc (suc (suc (suc height)))) left right index side from to = absurd (omega arith)
 
@@ -99,34 +98,15 @@ between height left right index from to =
       elim (cases_lt (above height left) index) [
         | inl lt ↦ lt
         | inr ge ↦ elim (cases_lt index (above height left)) [
-          | inl below ↦ absurd (omega (
-            arith,
-            first.from,
-            first_leaf-lt height index (above height left) below,
-            width-pos height,
-          ))
-          | inr same ↦ absurd (omega (
-            arith,
-            first.from,
-            ap (first_leaf height) (let e : index ≡ above height left = omega arith in e),
-          ))
+          | inl below ↦ grind (arith, first_leaf-lt height index (above height left) below, width-pos height)
+          | inr same ↦ grind arith
         ]
       ],
       elim (cases_lt index (above height right)) [
         | inl lt ↦ lt
         | inr ge ↦ elim (cases_lt (above height right) index) [
-          | inl past ↦ absurd (omega (
-            arith,
-            last.to,
-            first_leaf-lt height (above height right) index past,
-            width-pos
-                height,
-          ))
-          | inr same ↦ absurd (omega (
-            arith,
-            last.to,
-            ap (first_leaf height) (let e : index ≡ above height right = omega arith in e),
-          ))
+          | inl past ↦ grind (arith, first_leaf-lt height (above height right) index past, width-pos height)
+          | inr same ↦ grind arith
         ]
       ],
     )
@@ -137,63 +117,45 @@ not_between : (height left right index : ℕ) →
     (index ≤ above height left) ⊎ (above height right ≤ index)
 not_between height left right index out = elim (cases_lt (above height left) index) [
   | inl past ↦ elim (cases_lt index (above height right)) [
-    | inl below ↦ elim out [
-      | inl before ↦ absurd (omega (
-        arith,
-        (above_covers height left).to,
-        first_leaf-lt height (above height left) index past,
-      ))
-      | inr after ↦ absurd (omega (
-        arith,
-        (above_covers height right).from,
-        first_leaf-lt height index (above height right) below,
-      ))
-    ]
+    | inl below ↦ grind (
+      arith,
+      above_covers height left,
+      first_leaf-lt height (above height left) index past,
+      above_covers height right,
+      first_leaf-lt height index (above height right) below,
+    )
     | inr ge ↦ inr ge
   ]
   | inr le ↦ inl le
 ]
 
-node_between : (top height first last index : ℕ) → IsNode top height first → IsNode top height last → first < index →
+node_between : {top height first last index : ℕ} → IsNode top height first → IsNode top height last → first < index →
     index < last → IsNode top height index
-node_between top height first last index first_is last_is from to =
-    let same : 2 ^ last_is.depth ≡ 2 ^ first_is.depth =
-    ap (λ n. 2 ^ n) (let e : last_is.depth ≡ first_is.depth = omega (arith, first_is.at, last_is.at) in e) in
-    record {
-      depth = first_is.depth;
-      at = first_is.at;
-      from = omega (arith, first_is.from);
-      to = omega (arith, last_is.to, same);
-    }
+node_between first_is last_is from to = grind arith
 
 -- The nodes of one height more.
-pub level_written : (old nodes new : List Summary) (top height left right : ℕ) (value : Bool) (node : Summary) →
-    IsNode top 0 left → IsNode top 0 right → above height left + 1 < above height right →
-    node ≡ summary (replicate (256 * width height) value) → AreWrittenUnder old nodes top height left right value →
-    IsLevelWritten nodes new (above height left) (above height right) (side_at height) node →
-    AreWrittenUnder old new top (suc height) left right value
-level_written old nodes new top height left right value node left_is right_is long node_is under level =
+pub level_written : {old nodes new : List Summary} {top height left right : ℕ} {value : Bool} {node : Summary} →
+    IsNode top 0 left → IsNode top 0 right → above height left + 1 < above height right → node ≡ summary (replicate
+    (256 * width height) value) → AreWrittenUnder old nodes top height left right value → IsLevelWritten nodes new
+    (above height left) (above height right) (side_at height) node → AreWrittenUnder old new top (suc height) left
+    right value
+level_written {nodes} {new} {top} {height} {left} {right} {value} left_is right_is long node_is under level =
     let first = above height left in
     let last = above height right in
-    let within : height ≤ top = above_within top height right right_is (omega arith) in
+    let within : height ≤ top = above_within height right_is (omega arith) in
     let first_node = above_is top height left left_is within in
     let last_node = above_is top height right right_is within in
     let other : (low index : ℕ) → IsNode top low index → low ≢ height → node_at new index ≡ node_at nodes index =
     λ low index is ne. elim (cases_lt first index) [
       | inl past ↦ elim (cases_lt index last) [
-        | inl before ↦ absurd (ne (same_height top low height index is
-            (node_between top height first last index first_node last_node past before)))
+        | inl before ↦ absurd (ne (same_height is
+            (node_between first_node last_node past before)))
         | inr ge ↦ level.outside index (inr ge)
       ]
       | inr le ↦ level.outside index (inl le)
     ] in
     record {
-      outside = λ low index is out. elim (cases_eq low height) [
-        | inl same ↦ level.outside index (not_between height left right index
-            (subst (λ n. (first_leaf n index ≤ left) ⊎ (right < first_leaf n index + width n)) same out))
-            ∙ under.outside low index is out
-        | inr ne ↦ other low index is ne ∙ under.outside low index is out
-      ];
+      outside = grind (arith, not_between);
       inside = λ low index lt is from to. elim (cases_eq low height) [
         | inl same ↦
             let at_from : left < first_leaf height index = subst (λ n. left < first_leaf n index) same from in
@@ -218,10 +180,10 @@ level_written old nodes new top height left right value node left_is right_is lo
     }
 
 -- the width of two nodes that are apart
-pub two_widths : (top height left right : ℕ) → IsNode top 0 left → IsNode top 0 right →
-    above height left + 1 < above height right → 2 * width height ≤ 2 ^ top
-two_widths top height left right left_is right_is long =
-    let within : height ≤ top = above_within top height right right_is (omega arith) in
+pub two_widths : {top : ℕ} (height : ℕ) {left right : ℕ} → IsNode top 0 left → IsNode top 0 right → above height left
+    + 1 < above height right → 2 * width height ≤ 2 ^ top
+two_widths {top} height {left} {right} left_is right_is long =
+    let within : height ≤ top = above_within height right_is (omega arith) in
     let first = span top height (above height left) (above_is top height left left_is within) in
     let last = span top height (above height right) (above_is top height right right_is within) in
     omega (arith, first.from, last.to, first_leaf-lt height (above height left) (above height right) (omega arith))
@@ -231,10 +193,12 @@ none_between : (low height left right index : ℕ) → height ≤ low → above 
     left < first_leaf low index → first_leaf low index + width low ≤ right → ⊥
 unfolding first_leaf width
 none_between zero height left right index le near from to =
-    let here = between height left right index
-    (subst (λ n. left < first_leaf n index) (let e : 0 ≡ height = omega arith in e) from)
-    (subst (λ n. first_leaf n index + width n ≤ right) (let e : 0 ≡ height = omega arith in e) to) in
-    absurd (omega (arith, here.0, here.1))
+    omega (
+      arith,
+      between height left right index (subst (λ n. left < first_leaf n index)
+          (let e : 0 ≡ height = omega arith in e) from) (subst (λ n. first_leaf n index + width n ≤ right)
+          (let e : 0 ≡ height = omega arith in e) to),
+    )
 none_between (suc low) height left right index le near from to = elim (cases_eq (suc low) height) [
   | inl same ↦
       let here = between height left right index (subst (λ n. left < first_leaf n index) same from)
@@ -246,24 +210,17 @@ none_between (suc low) height left right index le near from to = elim (cases_eq 
   ]) near from (omega (arith, width-pos low))
 ]
 
-pub written_between : (old new : List Summary) (top height left right : ℕ) (value : Bool) →
-    above height right ≤ above height left + 1 → AreWrittenUnder old new top height left right value →
-    AreWrittenBetween old new top left right value
-written_between old new top height left right value near under = record {
-  outside = under.outside;
-  inside = λ low index is from to. elim (cases_lt low height) [
-    | inl lt ↦ under.inside low index lt is from to
-    | inr ge ↦ absurd (none_between low height left right index ge near from to)
-  ];
-}
+pub written_between : {old new : List Summary} {top height left right : ℕ} {value : Bool} → above height right ≤ above
+    height left + 1 → AreWrittenUnder old new top height left right value → AreWrittenBetween old new top left right
+    value
+written_between near under = grind (arith, none_between)
 
 -- The nodes below a block.
-pub block_written : (old one two new : List Summary) (block : ℕ) (value : Bool) (leaf pair half : Summary) →
-    1 ≤ block → leaf ≡ summary (replicate 256 value) → pair ≡ summary (replicate 512 value) →
-    half ≡ summary (replicate 1024 value) → IsWritten old one (8 * block) (8 * block + 8) leaf →
-    IsWritten one two (4 * block) (4 * block + 4) pair → IsWritten two new (2 * block) (2 * block + 2) half →
-    IsBlockWritten old new block value
-block_written old one two new block value leaf pair half some leaf_is pair_is half_is first second third = record {
+pub block_written : {old one two new : List Summary} {block : ℕ} {value : Bool} {leaf pair half : Summary} → 1 ≤ block
+    → leaf ≡ summary (replicate 256 value) → pair ≡ summary (replicate 512 value) → half ≡ summary (replicate 1024
+    value) → IsWritten old one (8 * block) (8 * block + 8) leaf → IsWritten one two (4 * block) (4 * block + 4) pair →
+    IsWritten two new (2 * block) (2 * block + 2) half → IsBlockWritten old new block value
+block_written {block} some leaf_is pair_is half_is first second third = record {
   same_length = third.same_length ∙ (second.same_length ∙ first.same_length);
   leaves = λ index at. third.outside index nothing_free (inr (omega arith))
       ∙ (second.outside index nothing_free (inr (omega arith))

@@ -1,3 +1,4 @@
+-- The nodes are joined before the tree is asked, and no word changes.
 use Rattle.std.proofs.Common.{◌≡◌, ◌<◌, ◌*◌, ℕ, List, IsNone, IfSome, length, subst, arith, ap, sym, ◌∙◌, refl}
 use Rattle.std.specs.Vec.{with_items}
 use Rattle.std.proofs.lemmas.Bool.{true≢false}
@@ -60,10 +61,8 @@ invariant_of-self g c =
     let j = joined g (goal.at.invariant_of-self g c).After-join_changed in
     let near = c.later_near-self-inside in
     let bits = c.self.inside.bits.items in
-    same_holes bits bits c.join_changed.new.nodes (with_items c.self.inside.nodes c.join_changed.new.nodes).items
-    (record { first = 0; end = 0 }) near.result c.self.inside.size c.self.inside.free c.self.inside.most refl j.nodes
-    (holes_joined bits c.self.inside.nodes.items c.join_changed.new.nodes c.self.inside.changed c.self.inside.near
-    near.result c.self.inside.size c.self.inside.free c.self.inside.most c.self.invariant j.tree
+    same_holes refl j.nodes
+    (holes_joined c.self.invariant j.tree
     (subst (λ (list : List ℕ). near.result < length list) c.deref-3.ensures.value near.ensures.within)
     (subst (λ (list : List ℕ). NoneBelow list (64 * near.result)) c.deref-3.ensures.value near.ensures.none_below))
 

@@ -1,5 +1,5 @@
-use Rattle.std.proofs.Common.{rules, min, ◌≡◌, ◌+◌, ◌*◌, ◌/◌, ◌<◌, ◌^◌, true, List, ℕ, length, arith}
-use Rattle.std.proofs.Common.{ap, ◌∙◌, subst}
+-- What is left after words were given back is what the contract says, and its tree is right.
+use Rattle.std.proofs.Common.{rules, min, ◌≡◌, ◌+◌, ◌*◌, ◌/◌, ◌<◌, ◌^◌, true, List, ℕ, length, arith, ap, ◌∙◌, subst}
 use Rattle.std.specs.Vec.{with_items}
 use Rattle.std.proofs.lemmas.List.{with_items_is}
 use Rattle.holes.specs.declared.summary.Summary.{Summary}
@@ -13,8 +13,7 @@ use Rattle.holes.proofs.Holes.give_far.Goals.{After-deref_mut-2, After-fill-self
 range : (g : given.Over) (c : After-deref_mut-2 g) → Gives c.self.inside.bits.items c.self.inside.size
     c.self.inside.free c.self.inside.most c.args.place c.args.len
 range g c =
-    gives c.self.inside.bits.items c.self.inside.nodes.items c.self.inside.changed c.self.inside.near
-    c.self.inside.size c.self.inside.free c.self.inside.most c.args.place c.args.len c.args.self.now c.self.invariant
+    gives c.args.self.now c.self.invariant
     c.self.view_is c.requires.some c.requires.within c.requires.none_free c.requires.room
 
 pub fill-self-inside-requires-clause-within : goal.fill-self-inside-requires-clause-within
@@ -66,14 +65,10 @@ invariant_of-self g c =
     let filled = c.fill-self-inside in
     let near = c.min-self-inside.result in
     let least : near ≡ min c.self.inside.near (c.args.place / 64) = search rules in
-    let low = given_low bits filled.new.bits (64 * c.self.inside.near) (64 * near) c.args.place c.args.len w.filled
+    let low = given_low (64 * c.self.inside.near) (64 * near) w.filled
     c.self.invariant.none_below (omega arith) (omega arith) in
-    same_holes filled.new.bits (with_items c.self.inside.bits filled.new.bits).items filled.new.nodes
-    (with_items c.self.inside.nodes filled.new.nodes).items filled.result near c.self.inside.size
-    (c.self.inside.free + c.args.len) c.self.inside.most w.bits w.nodes
-    (holes_after bits filled.new.bits nodes filled.new.nodes c.self.inside.changed filled.result c.self.inside.near near
-    c.self.inside.size c.self.inside.free c.self.inside.most c.args.place c.args.len
-    (c.self.inside.free + c.args.len) true c.self.invariant filled.ensures.tree filled.ensures.few w.filled k.within
+    same_holes w.bits w.nodes
+    (holes_after c.self.invariant filled.ensures.tree filled.ensures.few w.filled k.within
     (omega (arith, c.self.invariant.near_within)) low k.free_is k.few)
 
 pub returns : goal.returns
@@ -83,7 +78,7 @@ returns g c =
     let size = c.self.inside.size in
     same_region _ _ _ _
     (ap (λ (list : List ℕ). words_from (word_at list) 0 size) w.bits
-    ∙ (filled_words c.self.inside.bits.items c.fill-self-inside.new.bits size c.args.place c.args.len true
+    ∙ (filled_words size
     c.self.invariant.within k.within w.filled
     ∙ ap (λ (r : Region). set_range r.free c.args.place c.args.len true) c.self.view_is))
     (ap (λ (r : Region). r.most) c.self.view_is)

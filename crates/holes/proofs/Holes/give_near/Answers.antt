@@ -1,3 +1,4 @@
+-- What is left after one word was given back at hand is what the contract says.
 use Rattle.std.proofs.Common.{rules, min, ◌≡◌, ◌+◌, ◌*◌, ◌/◌, ◌<◌, ◌≤◌, ◌^◌, true, List, ℕ, arith}
 use Rattle.std.proofs.Common.{refl, ap, ◌∙◌, subst}
 use Rattle.std.specs.Vec.{with_items}
@@ -25,8 +26,7 @@ known g c =
     c.give_word.ensures in
     let leaf = c.has.ensures (search rules) in
     record {
-      range = gives c.self.inside.bits.items c.self.inside.nodes.items c.self.inside.changed c.self.inside.near
-          c.self.inside.size c.self.inside.free c.self.inside.most c.args.place 1 c.args.self.now c.self.invariant
+      range = gives c.args.self.now c.self.invariant
           c.self.view_is (omega arith) c.requires.within c.requires.none_free c.requires.room;
       bits = with_items_is c.self.inside.bits c.give_word.new.bits
           (omega (arith, filled.same_length, c.self.inside.bits.ok.0));
@@ -51,14 +51,12 @@ invariant_of-self g c =
     let new = c.give_word.new.bits in
     let near = c.min-self-inside.result in
     let least : near ≡ min c.self.inside.near (c.args.place / 64) = search rules in
-    let low = given_low bits new (64 * c.self.inside.near) (64 * near) c.args.place 1 k.filled
+    let low = given_low (64 * c.self.inside.near) (64 * near) k.filled
     c.self.invariant.none_below (omega arith) (omega arith) in
-    let tree = tree_filled bits new nodes changed c.args.place 1 true c.self.invariant.tree k.filled
+    let tree = tree_filled c.self.invariant.tree k.filled
     (omega (arith, k.from)) (omega (arith, k.to)) in
-    same_holes new (with_items c.self.inside.bits new).items nodes nodes changed near c.self.inside.size
-    (c.self.inside.free + 1) c.self.inside.most k.bits refl
-    (holes_after bits new nodes nodes changed changed c.self.inside.near near c.self.inside.size c.self.inside.free
-    c.self.inside.most c.args.place 1 (c.self.inside.free + 1) true c.self.invariant tree c.self.invariant.few_changed
+    same_holes k.bits refl
+    (holes_after c.self.invariant tree c.self.invariant.few_changed
     k.filled k.range.within
     (omega (arith, c.self.invariant.near_within)) low k.range.free_is k.range.few)
 
@@ -68,7 +66,7 @@ returns g c =
     let size = c.self.inside.size in
     same_region _ _ _ _
     (ap (λ (list : List ℕ). words_from (word_at list) 0 size) k.bits
-    ∙ (filled_words c.self.inside.bits.items c.give_word.new.bits size c.args.place 1 true c.self.invariant.within
+    ∙ (filled_words size c.self.invariant.within
     k.range.within k.filled
     ∙ ap (λ (r : Region). set_range r.free c.args.place 1 true) c.self.view_is))
     (ap (λ (r : Region). r.most) c.self.view_is)

@@ -1,3 +1,4 @@
+-- The lowest fit of one word is the lowest free word.
 use Rattle.std.proofs.Common.{◌≡◌, ◌+◌, ◌*◌, List, ℕ, Some, length, refl, ap, arith}
 use Rattle.holes.specs.FreeWords.{widest}
 use Rattle.holes.specs.Tree.{words_of, words_between, lowest_fit}

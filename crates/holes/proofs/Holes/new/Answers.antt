@@ -12,8 +12,7 @@ invariant_of-holes g c =
     c.in_ok-bits.ensures.items_if_clones_equal (λ y e. e) in
     let nodes : c.in_ok-nodes.nodes.items ≡ replicate (2 * leaves) nothing_free =
     c.in_ok-nodes.ensures.items_if_clones_equal (λ y e. e) in
-    same_holes (replicate (4 * leaves) 0) c.in_ok-bits.bits.items (replicate (2 * leaves) nothing_free)
-    c.in_ok-nodes.nodes.items (record { first = 0; end = 0 }) 0 c.args.size 0 c.args.most bits nodes
+    same_holes bits nodes
     (holes_of_none leaves c.args.size c.args.most c.leaves_for-leaves.ensures.power
     (omega (arith, c.leaves_for-leaves.ensures.few)) c.leaves_for-leaves.ensures.enough c.requires.some)
 

@@ -1,3 +1,4 @@
+-- After two ranges were filled, exactly the words from a place on are free.
 use Rattle.std.proofs.Common.{rules, min, ◌≡◌, ◌-◌, ◌/◌, ◌≤◌, ◌<◌, true, false, List, ℕ, length, arith, sym, ap}
 use Rattle.std.proofs.Common.{◌∙◌, subst}
 use Rattle.std.specs.Vec.{with_items}
@@ -96,13 +97,9 @@ invariant_of-self g c =
     let least : near ≡ min (c.args.from / 64) (c.len.result - 1) = search rules in
     let within : near < length c.self.inside.bits.items =
     omega (arith, c.len.ensures, c.self.inside.bits.ok.0, c.self.invariant.near_within) in
-    same_holes bits (with_items (with_items c.self.inside.bits c.fill-self-inside.new.bits) bits).items nodes
-    (with_items (with_items c.self.inside.nodes c.fill-self-inside.new.nodes) nodes).items
-    c.fill-self-inside-2.result near c.self.inside.size (c.self.inside.size - c.args.from) c.self.inside.most s.bits
+    same_holes s.bits
     s.nodes
-    (holes_reset c.self.inside.bits.items c.fill-self-inside.new.bits bits c.self.inside.nodes.items nodes
-    c.self.inside.changed c.fill-self-inside-2.result c.self.inside.near near c.self.inside.size c.self.inside.free
-    c.self.inside.most c.args.from c.self.invariant c.fill-self-inside-2.ensures.tree
+    (holes_reset c.self.invariant c.fill-self-inside-2.ensures.tree
     c.fill-self-inside-2.ensures.few s.from_within s.first_filled
     s.filled within (omega arith))
 
@@ -111,8 +108,8 @@ returns g c =
     let s = second g (goal.at.returns g c).After-fill-self-inside-2 in
     same_region _ _ _ _
     (ap (λ (list : List ℕ). words_from (word_at list) 0 c.self.inside.size) s.bits
-    ∙ (reset_words c.self.inside.bits.items c.fill-self-inside.new.bits c.fill-self-inside-2.new.bits
-    c.self.inside.size c.args.from
+    ∙ (reset_words
+    c.self.inside.size
     c.self.invariant.within s.from_within s.first_filled s.filled
     ∙ ap (free_from c.args.from) (sym
     (view_length c.self.inside.bits.items c.self.inside.size c.self.inside.most c.args.self.now c.self.view_is))))

@@ -1,5 +1,5 @@
-use Rattle.std.proofs.Common.{◌≡◌, ◌+◌, ◌-◌, ◌*◌, ◌<◌, false, List, ℕ, length, arith, ap}
-use Rattle.std.proofs.Common.{◌∙◌, subst}
+-- What is left after words were taken is what the contract says, and its tree is right.
+use Rattle.std.proofs.Common.{◌≡◌, ◌+◌, ◌-◌, ◌*◌, ◌<◌, false, List, ℕ, length, arith, ap, ◌∙◌, subst}
 use Rattle.std.specs.Vec.{with_items}
 use Rattle.std.proofs.lemmas.List.{with_items_is}
 use Rattle.holes.specs.declared.summary.Summary.{Summary}
@@ -95,15 +95,12 @@ invariant_of-self g c =
     let none : NoneBelowBeside bits (64 * near.result) place c.args.len =
     subst (λ (list : List ℕ). NoneBelowBeside list (64 * near.result) place c.args.len) c.deref.ensures.value
     near.ensures.none_beside in
-    same_holes filled.new.bits (with_items c.self.inside.bits filled.new.bits).items filled.new.nodes
-    (with_items c.self.inside.nodes filled.new.nodes).items filled.result near.result c.self.inside.size free
-    c.self.inside.most w.bits w.nodes
-    (holes_after bits filled.new.bits c.self.inside.nodes.items filled.new.nodes c.self.inside.changed filled.result
-    c.self.inside.near near.result c.self.inside.size c.self.inside.free c.self.inside.most place c.args.len free false
+    same_holes w.bits w.nodes
+    (holes_after
     c.self.invariant filled.ensures.tree filled.ensures.few w.filled w.takes.within within
-    (taken_low bits filled.new.bits (64 * near.result) place c.args.len (omega arith) w.filled none)
+    (taken_low (64 * near.result) (omega arith) w.filled none)
     (omega (arith, w.free))
-    (omega (arith, takes_few bits c.self.inside.size c.args.len place c.requires w.takes, c.self.invariant.few)))
+    (omega (arith, takes_few c.requires w.takes, c.self.invariant.few)))
 
 pub returns-clause-lowest : goal.returns-clause-lowest
 returns-clause-lowest g c =
@@ -132,7 +129,7 @@ returns-clause-taken g c =
     let seen = c.self.view_is ∙ c.in_ok-place.ensures.unchanged in
     same_region _ _ _ _
     (ap (λ (list : List ℕ). words_from (word_at list) 0 size) w.bits
-    ∙ (filled_words c.self.inside.bits.items c.fill-self-inside.new.bits size place c.args.len false
+    ∙ (filled_words size
     c.self.invariant.within w.takes.within w.filled
     ∙ ap (λ (r : Region). set_range r.free place c.args.len false) seen))
     (ap (λ (r : Region). r.most) seen)

@@ -1,5 +1,5 @@
-use Rattle.std.proofs.Common.{rules, ◌≡◌, ◌+◌, ◌-◌, ◌*◌, ◌/◌, ◌<◌, ◌≤◌, false, List, ℕ, arith, refl, ap}
-use Rattle.std.proofs.Common.{◌∙◌, subst}
+-- What is left after one word was taken at hand is what the contract says.
+use Rattle.std.proofs.Common.{rules, ◌≡◌, ◌+◌, ◌*◌, ◌/◌, ◌<◌, ◌≤◌, false, List, ℕ, arith, refl, ap, ◌∙◌, subst}
 use Rattle.std.specs.Vec.{with_items}
 use Rattle.std.proofs.lemmas.List.{with_items_is}
 use Rattle.holes.specs.FreeWords.{Region, set_range, free_count, widest}
@@ -70,15 +70,13 @@ invariant_of-self-2 g c =
     let new = c.take_lowest.new.bits in
     let i = c.self.invariant in
     let range = k.takes.within in
-    let low = taken_low bits new (64 * near) place 1 (omega (arith, i.near_within)) k.filled
+    let low = taken_low (64 * near) (omega (arith, i.near_within)) k.filled
     (none_beside bits (64 * near) place 1 i.none_below) in
-    let tree = tree_filled bits new nodes changed place 1 false i.tree k.filled
+    let tree = tree_filled i.tree k.filled
     (omega (arith, k.from, c.in_ok-place.ensures.bitmap)) (omega (arith, k.to, c.in_ok-place.ensures.bitmap)) in
-    same_holes new (with_items c.self.inside.bits new).items nodes nodes changed near size (c.self.inside.free - 1)
-    c.self.inside.most k.bits refl
-    (holes_after bits new nodes nodes changed changed near near size c.self.inside.free c.self.inside.most place 1
-    (c.self.inside.free - 1) false i tree i.few_changed k.filled range i.near_within low (omega (arith, k.free))
-    (omega (arith, takes_few bits size 1 place (omega arith) k.takes, i.few)))
+    same_holes k.bits refl
+    (holes_after i tree i.few_changed k.filled range i.near_within low (omega (arith, k.free))
+    (omega (arith, takes_few (omega arith) k.takes, i.few)))
 
 pub returns-clause-fits : goal.returns-clause-fits
 returns-clause-fits g c =
@@ -103,7 +101,7 @@ returns-clause-taken g c =
     let place = c.in_ok-place.place in
     same_region _ _ _ _
     (ap (λ (list : List ℕ). words_from (word_at list) 0 size) k.bits
-    ∙ (filled_words c.self.inside.bits.items c.take_lowest.new.bits size place 1 false c.self.invariant.within
+    ∙ (filled_words size c.self.invariant.within
     k.takes.within k.filled
     ∙ ap (λ (r : Region). set_range r.free place 1 false) c.self.view_is))
     (ap (λ (r : Region). r.most) c.self.view_is)

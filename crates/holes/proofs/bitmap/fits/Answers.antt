@@ -1,3 +1,4 @@
+-- A bitmap with fewer bits than words that are wanted has no hole that is wide enough.
 use Rattle.std.proofs.Common.{◌≡◌, ℕ, ◌+◌, ◌/◌, ◌<◌, ◌≤◌, Bool, true, false, eqb, List, ◌∷◌, refl, ◌∙◌, ap}
 use Rattle.std.proofs.Common.{arith, zero, suc}
 use Rattle.std.specs.Int.{bit_at}

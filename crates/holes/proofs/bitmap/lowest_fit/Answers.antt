@@ -1,3 +1,4 @@
+-- The loop shifts the lowest free words out until enough are free in a row, and the rest has the same lowest fit.
 use Rattle.std.proofs.Common.{rules, ◌≡◌, ◌+◌, ◌≤◌, ◌<◌, ◌^◌, arith, sym, ap, ◌∙◌}
 use Rattle.std.specs.Int.{w64, trailing_zeros}
 use Rattle.holes.specs.FreeWords.{widest}

@@ -9,7 +9,7 @@ use Rattle.holes.proofs.tree.fill.Goals.{else-first-changed+else-changed-last}
 
 pub returns-then-last-first-ge-NEAR-clause-tree : goal.returns-then-last-first-ge-NEAR-clause-tree
 returns-then-last-first-ge-NEAR-clause-tree c =
-    beside_none c.fill_long.new.bits c.fill_long.new.nodes c.fill_long.ensures.tree
+    beside_none c.fill_long.ensures.tree
 
 pub returns-clause-tree : goal.returns-clause-tree
 returns-clause-tree c =
@@ -19,13 +19,13 @@ returns-clause-tree c =
           let more = w.with_more-changed in
           subst (λ (changed : Changed). IsTreeBeside new c.if-first-changed.nodes changed) (sym w.changed-is)
           (subst (λ (nodes : List Summary). IsTreeBeside new nodes more.result) (sym w.nodes-is)
-          (tree_filled c.args.bits.now new more.new.nodes more.result c.args.place c.args.len c.args.value
+          (tree_filled
           more.ensures.tree c.fill_words.ensures (omega (arith, more.ensures.first))
           (omega (arith, more.ensures.end))))
       | else-first-changed+else-changed-last w ↦
           subst (λ (changed : Changed). IsTreeBeside new c.if-first-changed.nodes changed) (sym w.changed-is)
           (subst (λ (nodes : List Summary). IsTreeBeside new nodes c.args.changed) (sym w.nodes-is)
-          (tree_filled c.args.bits.now new c.args.nodes.now c.args.changed c.args.place c.args.len c.args.value
+          (tree_filled
           c.requires.tree c.fill_words.ensures (omega (arith, w.if-first-changed.false))
           (omega (arith, w.if-changed-last.false))))
     ]

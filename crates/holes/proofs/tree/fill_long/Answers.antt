@@ -1,3 +1,4 @@
+-- The nodes are those of the new words, after a range over several leaves was filled.
 use Rattle.std.proofs.Common.{◌≡◌, ◌+◌, ◌^◌, arith, subst}
 use Rattle.holes.specs.Tree.{leaf_count, IsNode, IsTreeBeside, AreWrittenBetween}
 use Rattle.holes.proofs.Nodes.{leaf_is}
@@ -9,8 +10,7 @@ use Rattle.holes.proofs.tree.fill_long.Goals.{After-fill_words}
 filled : (c : After-fill_words) →
     IsTreeBeside c.fill_words.new.bits c.args.nodes.now (record { first = c.args.first; end = c.args.last + 1 })
 filled c =
-    tree_filled c.args.bits.now c.fill_words.new.bits c.args.nodes.now
-    (record { first = c.args.first; end = c.args.last + 1 }) c.args.place c.args.len c.args.value c.requires.tree
+    tree_filled c.requires.tree
     c.fill_words.ensures (omega (arith, c.requires.from)) (omega (arith, c.requires.to))
 
 pub write_between-requires-clause-leaves : goal.write_between-requires-clause-leaves
@@ -44,9 +44,8 @@ returns-clause-tree c =
     subst (λ n. AreWrittenBetween nodes c.write_between.new.nodes top (n + c.args.first) (n + c.args.last) c.args.value)
     count (c.write_between.ensures top left right) in
     c.join_above.ensures bits
-    (long_joining bits nodes c.join_leaves-2.new.nodes c.args.first c.args.last c.args.value tree
-    (long_of bits nodes c.write_between.new.nodes c.join_leaves.new.nodes c.join_leaves-2.new.nodes c.args.first
-    c.args.last c.args.value tree c.requires.order
+    (long_joining tree
+    (long_of tree c.requires.order
     (λ word from to. between_filled c.args.bits.now bits c.args.place c.args.len c.args.value (omega arith)
     c.fill_words.ensures word (omega (arith, c.requires.from)) (omega (arith, c.requires.to)))
     c.write_between.auto.nodes written (record {

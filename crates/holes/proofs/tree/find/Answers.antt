@@ -1,3 +1,4 @@
+-- The loop goes down to the node that has the lowest fit, until the fit is known or a leaf is reached.
 use Rattle.std.proofs.Common.{rules, ◌≡◌, ◌+◌, ◌-◌, ◌*◌, ◌/◌, ◌^◌, ◌<◌, ◌≤◌, length, refl, arith, sym, subst, IfSome}
 use Rattle.std.proofs.lemmas.Bool.{true≢false}
 use Rattle.holes.specs.FreeWords.{widest}
@@ -8,36 +9,36 @@ use Rattle.holes.proofs.tree.find.Goals.{In-loop-index, After-loop-index}
 
 pub returns-then-root-len-clause-none : goal.returns-then-root-len-clause-none
 returns-then-root-len-clause-none c =
-    let root = root_longest c.args.bits.now c.args.nodes.now c.requires.tree in
+    let root = root_longest c.requires.tree in
     let short : widest (words_of c.args.bits.now) < c.args.len = omega arith in
     ((λ e. short), (λ e. refl))
 
 pub returns-then-root-clause-none : goal.returns-then-root-clause-none
 returns-then-root-clause-none c =
-    let root = root_longest c.args.bits.now c.args.nodes.now c.requires.tree in
+    let root = root_longest c.requires.tree in
     let wide : c.args.len ≤ (node_at c.args.nodes.now 1).longest = omega arith in
     ((λ e. absurd (true≢false e)), (λ short. absurd (omega (arith, root, wide))))
 
 pub returns-then-root-clause-lowest : goal.returns-then-root-clause-lowest
 returns-then-root-clause-lowest c =
-    root_whole c.args.bits.now c.args.nodes.now c.args.len c.requires.tree (omega arith) c.if-root.true
+    root_whole c.args.len c.requires.tree (omega arith) c.if-root.true
 
 pub loop-index-init : goal.loop-index-init
 loop-index-init c = record {
   some = omega arith;
-  at = at_root c.args.bits.now c.args.nodes.now c.args.len c.requires.tree (omega arith) c.if-root.false;
+  at = at_root c.requires.tree (omega arith) c.if-root.false;
 }
 
 -- what is known at a node that has parts
 parts_at : (c : In-loop-index) →
     Below c.args.bits.now c.args.nodes.now c.args.len c.loop-index.index c.loop-index.place c.loop-index.width
 parts_at c =
-    below c.args.bits.now c.args.nodes.now c.args.len c.loop-index.index c.loop-index.place c.loop-index.width
+    below
     c.requires.some c.loop-index.invariant.at c.loop-index-test.true
 
 pub returns-then-left-clause-none : goal.returns-then-left-clause-none
 returns-then-left-clause-none c =
-    let root = root_longest c.args.bits.now c.args.nodes.now c.requires.tree in
+    let root = root_longest c.requires.tree in
     let wide : c.args.len ≤ (node_at c.args.nodes.now 1).longest = omega arith in
     ((λ e. absurd (true≢false e)), (λ short. absurd (omega (arith, root, wide))))
 
@@ -72,7 +73,7 @@ overflow_add-result c =
 
 pub returns-then-len-left-2-clause-none : goal.returns-then-len-left-2-clause-none
 returns-then-len-left-2-clause-none c =
-    let root = root_longest c.args.bits.now c.args.nodes.now c.requires.tree in
+    let root = root_longest c.requires.tree in
     let wide : c.args.len ≤ (node_at c.args.nodes.now 1).longest = omega arith in
     ((λ e. absurd (true≢false e)), (λ short. absurd (omega (arith, root, wide))))
 
@@ -96,8 +97,7 @@ loop-index-preserved c =
 leaf_at : (c : After-loop-index) → AtLeaf c.args.bits.now c.args.len
     ((c.loop-index.index - length c.args.nodes.now / 2) * 4)
 leaf_at c =
-    at_leaf c.args.bits.now c.args.nodes.now c.args.len c.loop-index.index c.loop-index.place c.loop-index.width
-    ((c.loop-index.index - length c.args.nodes.now / 2) * 4) c.loop-index.invariant.at (omega arith) refl
+    at_leaf c.loop-index.invariant.at (omega arith) refl
 
 pub overflow_mul-first : goal.overflow_mul-first
 overflow_mul-first c =
@@ -119,7 +119,7 @@ find_in-requires-clause-within c = (leaf_at (goal.at.find_in-requires-clause-wit
 pub returns-clause-none : goal.returns-clause-none
 returns-clause-none c =
     let leaf = leaf_at (goal.at.returns-clause-none c).After-loop-index in
-    let root = root_longest c.args.bits.now c.args.nodes.now c.requires.tree in
+    let root = root_longest c.requires.tree in
     let wide : c.args.len ≤ (node_at c.args.nodes.now 1).longest = omega arith in (
       (λ e. let short = c.find_in.ensures.none.0 e in absurd (omega (arith, leaf.fits, short))),
       (λ short. absurd (omega (arith, root, wide))),

@@ -1,3 +1,4 @@
+-- No hole of the bitmaps that were passed is wide enough, and the loop knows how many words are free at their end.
 use Rattle.std.proofs.Common.{rules, ℕ, ◌≡◌, ◌+◌, ◌-◌, ◌*◌, ◌<◌, ◌≤◌, ◌^◌, get_or, arith, sym, ap, ◌∙◌, inl, inr}
 use Rattle.std.proofs.lemmas.Bool.{true≢false, cond-true, cond-false, ne_eqb, cases_lt}
 use Rattle.holes.specs.FreeWords.{front_run, widest}

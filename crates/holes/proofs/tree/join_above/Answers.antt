@@ -1,4 +1,4 @@
-use Rattle.std.proofs.Common.{◌≡◌, arith, subst, set, ◌∙◌}
+use Rattle.std.proofs.Common.{◌≡◌, arith, subst, ◌∙◌}
 use Rattle.holes.specs.Tree.{IsJoining}
 use Rattle.holes.proofs.Joining.{step_two, joining_step}
 use Rattle.holes.proofs.tree.join_above.Goals as goal
@@ -15,8 +15,7 @@ loop-first-preserved c =
       same_length = step.same_length ∙ i.same_length;
       order = omega (arith, i.order);
       shrunk = omega (arith, i.shrunk);
-      joining = λ bits is. joining_step bits nodes
-          (set (set nodes first c.join.result) last c.join-in-loop-first.result) first last
+      joining = λ bits is. joining_step
           (omega arith) (i.joining bits is) step;
     }
 

@@ -5,7 +5,7 @@ use Rattle.holes.proofs.tree.join_changed.Goals.{After-join_leaves}
 
 pub returns-then-changed-eq0 : goal.returns-then-changed-eq0
 returns-then-changed-eq0 c =
-    tree_of_beside c.args.bits.now c.args.nodes.now c.args.changed c.requires.tree c.if-changed-eq0.true
+    tree_of_beside c.requires.tree c.if-changed-eq0.true
 
 some : (c : After-join_leaves) → c.args.changed.first < c.args.changed.end
 some c = elim c.requires.tree.order [
@@ -21,7 +21,7 @@ join_above-requires-clause-order c =
 pub returns : goal.returns
 returns c =
     c.join_above.ensures c.args.bits.now
-    (changed_joining c.args.bits.now c.args.nodes.now c.join_leaves.new.nodes c.args.changed c.requires.tree
+    (changed_joining c.requires.tree
     (some (goal.at.returns c).After-join_leaves) c.requires.few (record {
       same_length = c.join_leaves.auto.nodes;
       leaves = c.join_leaves.ensures.leaves;

@@ -7,7 +7,7 @@ use Rattle.holes.proofs.tree.join_path.Goals as goal
 
 pub returns-then-eq : goal.returns-then-eq
 returns-then-eq c bits is =
-    joining_same bits c.loop-index.nodes c.loop-index.index c.loop-index-test.true
+    joining_same c.loop-index-test.true
     (equal_summaries (node_at c.loop-index.nodes c.loop-index.index) c.join-joined.result
     (sym c.eq.ensures ∙ c.if-eq.true) ∙ c.join-joined.ensures) (c.loop-index.invariant.joining bits is)
 
@@ -19,7 +19,7 @@ loop-index-preserved c =
     record {
       same_length = length-set c.loop-index.nodes index c.join-joined.result ∙ i.same_length;
       shrunk = omega (arith, i.shrunk);
-      joining = λ bits is. joining_step bits c.loop-index.nodes _ index index c.loop-index-test.true (i.joining bits is)
+      joining = λ bits is. joining_step c.loop-index-test.true (i.joining bits is)
           (step_one c.loop-index.nodes index c.join-joined.result within c.join-joined.ensures);
     }
 
@@ -27,5 +27,5 @@ pub returns : goal.returns
 returns c bits is =
     let i = c.loop-index.invariant in
     let none : c.loop-index.index ≡ 0 = omega arith in
-    joining_done bits c.loop-index.nodes c.loop-index.index
+    joining_done
     (subst (λ n. IsJoining bits c.loop-index.nodes n c.loop-index.index) none (i.joining bits is))

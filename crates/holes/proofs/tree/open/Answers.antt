@@ -14,7 +14,7 @@ open_block-requires-clause-within c =
 
 pub returns-then-node : goal.returns-then-node
 returns-then-node c =
-    opened c.args.nodes.now c.open_block.new.nodes c.args.leaf _ c.requires.within refl (omega arith)
+    opened c.args.leaf c.requires.within refl (omega arith)
     (elim c.then-node.branch [
       | then-node-via-then-node w ↦ inl w.if-node.true
       | then-node-via-else-node+then-node-eq0 w ↦ inr w.if-node-eq0.true

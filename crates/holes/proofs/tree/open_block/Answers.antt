@@ -7,6 +7,5 @@ returns c =
     let value = c.alike-node.ensures in
     let pair = c.join-node.ensures ∙ doubled 256 _ c.alike-node.result (omega arith) value in
     let half = c.join-node-2.ensures ∙ doubled 512 _ c.join-node.result (omega arith) pair in
-    block_written c.args.nodes.now c.write.new.nodes c.write-2.new.nodes c.write-3.new.nodes c.args.block _
-    c.alike-node.result c.join-node.result c.join-node-2.result c.requires.some value pair half c.write.ensures
+    block_written c.requires.some value pair half c.write.ensures
     c.write-2.ensures c.write-3.ensures

@@ -10,12 +10,12 @@ returns-then-both-clause-tree c =
       | inl none ↦ absurd (omega arith)
       | inr lt ↦ lt
     ] in
-    tree_wider c.args.bits.now c.args.nodes.now c.args.changed c.min.result c.max.result c.requires.tree some
+    tree_wider c.requires.tree some
     (omega arith) (omega arith)
     (omega (arith, c.requires.within, c.requires.tree.within, c.requires.tree.node_count)) (omega arith)
 
 pub returns-clause-tree : goal.returns-clause-tree
 returns-clause-tree c =
-    open_blocks c.args.bits.now c.join_changed.new.nodes c.open_two.new.nodes c.args.more.first c.args.more.end
+    open_blocks
     c.join_changed.ensures c.open_two.auto.nodes c.requires.order
     (omega (arith, c.requires.within, c.join_changed.auto.nodes)) c.open_two.ensures

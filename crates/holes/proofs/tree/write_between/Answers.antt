@@ -1,3 +1,4 @@
+-- The loop writes the nodes between two leaves, one height after another.
 use Rattle.std.proofs.Common.{◌≡◌, ◌+◌, ◌*◌, ◌/◌, ◌<◌, arith, refl, ap, sym, subst, ◌∙◌, suc}
 use Rattle.std.specs.Prelude.{replicate}
 use Rattle.holes.specs.Tree.{above, width, summary, IsLevelWritten}
@@ -29,7 +30,7 @@ loop-first-preserved c =
     let h = i.height in
     let leaves = c.requires.leaves in
     let long : above h c.args.first + 1 < above h c.args.last = omega (arith, i.first_is, i.last_is) in
-    let wide = two_widths leaves.height h c.args.first c.args.last leaves.first_is leaves.last_is long in
+    let wide = two_widths h leaves.first_is leaves.last_is long in
     let level : IsLevelWritten c.loop-first.nodes c.write_level.new.nodes (above h c.args.first) (above h c.args.last)
     (side_at h) c.loop-first.node = subst (λ n. IsLevelWritten c.loop-first.nodes c.write_level.new.nodes n
     (above h c.args.last) (side_at h) c.loop-first.node) i.first_is
@@ -48,13 +49,12 @@ loop-first-preserved c =
           ∙ ap (λ n. summary (replicate n c.args.value))
           (let e : 256 * width h + 256 * width h ≡ 256 * width (suc h) = omega (arith, width_twice h) in e));
       side_is = omega (arith, i.side_is, side_half h);
-      written = λ top left right. level_written c.args.nodes.now c.loop-first.nodes c.write_level.new.nodes top h
-          c.args.first c.args.last c.args.value c.loop-first.node left right long i.node_is (i.written top left right)
+      written = λ top left right. level_written left right long i.node_is (i.written top left right)
           level;
     }
 
 pub returns : goal.returns
 returns c top left right =
     let i = c.loop-first.invariant in
-    written_between c.args.nodes.now c.loop-first.nodes top i.height c.args.first c.args.last c.args.value
+    written_between
     (omega (arith, i.first_is, i.last_is)) (i.written top left right)
