@@ -1,14 +1,14 @@
 -- Lemmas on the blocks of a region: a block that is written changes no other.
 use Rattle.std.proofs.Common.{◌≡◌, ◌≢◌, ◌⊎◌, ℕ, zero, suc, ℤ, pos, ◌+◌, ◌-◌, ◌<◌, ◌≤◌, List, length, take, drop, map}
-use Rattle.std.proofs.Common.{slice_index, slice_index_or, slice_set, replicate, [], ◌∷◌, Option, Some, None, is_some}
-use Rattle.std.proofs.Common.{inl, inr, refl, sym, ap, subst, ◌∙◌, arith}
-use Rattle.std.proofs.Math.Nat.{le-max_left, le-max_right, max-le}
+use Rattle.std.proofs.Common.{slice_index, slice_index_or, slice_set, replicate, [], Option, Some, None, is_some}
+use Rattle.std.proofs.Common.{inl, inr, refl, sym, ap, subst, ◌∙◌, arith, rules}
+use Rattle.std.proofs.Math.Nat.{le-max_left, le-max_right}
 use Rattle.std.proofs.lemmas.Bool.{cases_eq, cases_lt}
 use Rattle.std.proofs.lemmas.List.{ext_get_or, length-map, length-set, map-set, get_or_default, set-get_or}
 use Rattle.std.proofs.Math.ListN.{get_or-map}
 use Rattle.block_memory.specs.Table.{value_at}
 use Rattle.block_memory.specs.Layout.{PlacedBlock, Layout, Covers, IsClear, IsBare, Begins, words_of, words_at}
-use Rattle.block_memory.specs.Layout.{block_at_place, block_with_words, place_at, place_of, covered_at, covered_of}
+use Rattle.block_memory.specs.Layout.{block_at_place, block_with_words, place_at, place_of, covered_at}
 use Rattle.block_memory.specs.BlocksInside.{block_of_span, slots_from, AreBlocks, IsAtHome, covered_in}
 use Rattle.block_memory.specs.BlocksWritten.{IsWritten, IsMarked, IsLengthened}
 use Rattle.block_memory.specs.Writing.{IsApart, span_of, span_at as span_in, words_in}
@@ -26,35 +26,21 @@ pub record AreSpans (front : ℕ) (words : List ℤ) (starts : List ℕ) (spans 
   pub started : (n : ℕ) (s : Span) → value_at spans n ≡ Some s → front ≤ s.place → 0 < s.len
       → slice_index starts (s.place - front) ≡ n
 
-pub spans_of : (front : ℕ) (words : List ℤ) (starts : List ℕ) (spans : List (Option Span))
-    (size room starts_room : ℕ) → AreBlocks front words starts spans size room starts_room
-    → AreSpans front words starts spans
-spans_of front words starts spans size room starts_room b =
-    record { home = b.home; within = b.within; reached = b.reached; started = b.started }
+pub spans_of : {front : ℕ} {words : List ℤ} {starts : List ℕ} {spans : List (Option Span)} {size room starts_room : ℕ}
+    → AreBlocks front words starts spans size room starts_room → AreSpans front words starts spans
+spans_of b = grind arith
 
 -- a span ends before the region, or lies in it
 pub aside : (front n : ℕ) (s : Span) → IsAtHome front n s → (s.place + s.len ≤ front) ⊎ (front ≤ s.place)
-aside front n s home =
-    elim home [
-      | inl own ↦ inl (omega (arith, own.0, own.1, own.2))
-      | inr region ↦ inr region
-    ]
+aside front n s home = grind arith
 
 -- the blocks of a memory whose lists are as long as lists that were made longer for words of the region
-pub are_blocks : (front : ℕ) (words long words' : List ℤ) (starts' : List ℕ) (spans : List (Option Span))
-    (size end room starts_room : ℕ) → length spans ≡ front → AreSpans front words' starts' spans
-    → IsLengthened words long end → length words' ≡ length long → length words ≤ front + size → end ≤ front + size
-    → front + size ≤ room → size ≤ starts_room → AreBlocks (length spans) words' starts' spans size room starts_room
-are_blocks front words long words' starts' spans size end room starts_room e a w same few fits has_room starts_have =
-    rw e (record {
-      home = a.home;
-      within = a.within;
-      reached = a.reached;
-      started = a.started;
-      few = rw (same ∙ w.long) (max-le few fits);
-      words_room = has_room;
-      starts_room = starts_have;
-    })
+pub are_blocks : {front : ℕ} {words long words' : List ℤ} {starts' : List ℕ} {spans : List (Option Span)} {size end
+    room starts_room : ℕ} → length spans ≡ front → AreSpans front words' starts' spans → IsLengthened words long end →
+    length words' ≡ length long → length words ≤ front + size → end ≤ front + size → front + size ≤ room → size ≤
+    starts_room → AreBlocks (length spans) words' starts' spans size room starts_room
+are_blocks e a w same few fits has_room starts_have =
+    grind arith
 
 -- what lies at a number
 value_at-slots : (front : ℕ) (words : List ℤ) (spans : List (Option Span)) (n : ℕ)
@@ -73,34 +59,19 @@ span_block front words s =
 
 value_at-there : (front : ℕ) (words : List ℤ) (spans : List (Option Span)) (n : ℕ) (s : Span)
     → value_at spans n ≡ Some s → value_at (slots_from front words spans) n ≡ Some (span_block front words s)
-value_at-there front words spans n s there =
-    value_at-slots front words spans n ∙ ap (block_of_span front words) there
+value_at-there front words spans n s there = grind (arith, value_at-slots front words spans n)
 
 -- a span in the region covers its words
-Covers-span : (front : ℕ) (words : List ℤ) (spans : List (Option Span)) (n word : ℕ) (s : Span)
-    → value_at spans n ≡ Some s → front ≤ s.place → s.place ≤ front + word → front + word < s.place + s.len
-    → Covers (slots_from front words spans) n word
-Covers-span front words spans n word s there region from below =
-    record {
-      block = span_block front words s;
-      there = value_at-there front words spans n s there;
-      from = omega arith;
-      below = omega arith;
-    }
+Covers-span : (front : ℕ) (words : List ℤ) (spans : List (Option Span)) {n word : ℕ} (s : Span) → value_at spans n ≡
+    Some s → front ≤ s.place → s.place ≤ front + word → front + word < s.place + s.len → Covers (slots_from front
+    words spans) n word
+Covers-span front words spans {n} s there region from below =
+    grind (arith, span_block front words s, value_at-there front words spans n s there)
 
 -- what a number has after a span was written
 span_at : (spans : List (Option Span)) (n k : ℕ) (s t : Span) → n < length spans
     → value_at (slice_set spans n (Some s)) k ≡ Some t → (k ≡ n) × (t ≡ s) ⊎ ((k ≢ n) × (value_at spans k ≡ Some t))
-span_at spans n k s t within there =
-    elim (cases_eq k n) [
-      | inl same ↦
-          inl (
-            same,
-            same_some t s (sym there
-                ∙ (ap (value_at (slice_set spans n (Some s))) same ∙ value_at-set_same spans n (Some s) within)),
-          )
-      | inr other ↦ inr (other, sym (value_at-set_other spans n k (Some s) other) ∙ there)
-    ]
+span_at spans n k s t within there = grind (arith, same_some, slice_set, value_at-set_same, value_at-set_other)
 
 -- a block that is written at a span and marked, in words that no other block covers: it covers `len` words of the
 -- region from `place` on
@@ -142,15 +113,12 @@ module _ (front : ℕ) (words words' : List ℤ) (starts starts' : List ℕ) (sp
       → s.place ≤ word → word < s.place + s.len → ⊥
   apart k word t other there from below from' below' =
       elim (w.are_spans.home k t there) [
-        | inl own ↦ elim w.home [
-          | inl mine ↦ other (omega (arith, own.0, own.1, mine.0, mine.1))
-          | inr behind ↦ omega (arith, own.0, own.1, own.2)
-        ]
+        | inl own ↦ grind arith
         | inr region ↦ elim w.home [
           | inl mine ↦ omega (arith, mine.0, mine.1, mine.2)
           | inr behind ↦ let here = w.here in let covers = w.covers in
               other (w.clear k (word - front) (omega arith) (omega arith)
-              (Covers-span front words spans k (word - front) t there region (omega arith) (omega arith)))
+              (Covers-span front words spans t there region (omega arith) (omega arith)))
         ]
       ]
 
@@ -162,44 +130,24 @@ module _ (front : ℕ) (words words' : List ℤ) (starts starts' : List ℕ) (sp
         | inr behind ↦ elim (cases_eq t.place s.place) [
           | inl same ↦ elim (cases_lt 0 s.len) [
             | inl marks ↦ absurd (apart k t.place t other there (omega arith) (omega arith) (omega arith) (omega arith))
-            | inr nothing ↦ let none : s.len ≡ 0 = omega arith in
-                rw ((w.marked behind).kept none) (w.are_spans.started k t there region some)
+            | inr nothing ↦ grind arith
           ]
           | inr elsewhere ↦
-              (w.marked behind).others (t.place - front) (λ same. elsewhere (omega arith))
-              (w.are_spans.reached k t there region some)
-              ∙ w.are_spans.started k t there region some
+              grind arith
         ]
       ]
 
   reached_then : (k : ℕ) (t : Span) → value_at spans k ≡ Some t → front ≤ t.place → 0 < t.len
       → t.place - front < length starts'
-  reached_then k t there region some =
-      let before = w.are_spans.reached k t there region some in
-      elim (cases_lt s.place front) [
-        | inl own ↦ rw (w.unmarked own) before
-        | inr behind ↦ omega (arith, before, (w.marked behind).longer)
-      ]
+  reached_then k t there region some = grind arith
 
   are_spans_then : AreSpans front words' starts' (slice_set spans n (Some s))
   are_spans_then =
       record {
-        home = λ k t there. elim (span_at spans n k s t w.in_range there) [
-          | inl here ↦ rw (here.1, here.0) w.home
-          | inr elsewhere ↦ w.are_spans.home k t elsewhere.1
-        ];
-        within = λ k t there. elim (span_at spans n k s t w.in_range there) [
-          | inl here ↦ rw (here.1, w.written.same_size) w.fits
-          | inr elsewhere ↦ rw w.written.same_size (w.are_spans.within k t elsewhere.1)
-        ];
-        reached = λ k t there region some. elim (span_at spans n k s t w.in_range there) [
-          | inl here ↦ rw here.1 ((w.marked (rw here.1 at region)).reached (rw here.1 at some))
-          | inr elsewhere ↦ reached_then k t elsewhere.1 region some
-        ];
-        started = λ k t there region some. elim (span_at spans n k s t w.in_range there) [
-          | inl here ↦ rw (here.1, here.0) ((w.marked (rw here.1 at region)).marked (rw here.1 at some))
-          | inr elsewhere ↦ unmarked k t elsewhere.0 elsewhere.1 region some
-        ];
+        home = grind (arith, span_at);
+        within = grind (arith, span_at);
+        reached = grind (arith, span_at, reached_then);
+        started = grind (arith, span_at, unmarked);
       }
 
   untouched : (k : ℕ) (t : Span) → k ≢ n → value_at spans k ≡ Some t
@@ -219,35 +167,21 @@ module _ (front : ℕ) (words words' : List ℤ) (starts starts' : List ℕ) (sp
   other_span : (k : ℕ) → k ≢ n → (o : Option Span) → value_at spans k ≡ o
       → block_of_span front words' o ≡ block_of_span front words o
   other_span k other None there = refl
-  other_span k other (Some t) there =
-      ap (λ (part : List ℤ). Some (record {
-        owner = t.owner;
-        place = t.place - front;
-        len = covered_in front t;
-        words = part;
-      })) (untouched k t other there)
+  other_span k other (Some t) there = grind (arith, untouched)
 
   here_then : block_of_span front words' (Some s) ≡ new_block
-  here_then = rw (w.here, w.covers) (
-      ap (λ (part : List ℤ). Some (record { owner = s.owner; place = place; len = len; words = part }))
-      (rw w.long w.written.written))
+  here_then = cc
 
   at_number : (k : ℕ) → value_at new_slots k ≡ value_at (slice_set old_slots n new_block) k
   at_number k = value_at-slots front words' (slice_set spans n (Some s)) k ∙ elim (cases_eq k n) [
     | inl same ↦
-        let there : n < length old_slots = rw (length-map spans (block_of_span front words)) w.in_range in
-        rw same (ap (block_of_span front words') (value_at-set_same spans n (Some s) w.in_range)
-        ∙ (here_then ∙ sym (value_at-set_same old_slots n new_block there)))
+        grind (arith, old_slots, length-map, value_at-set_same, here_then, new_block)
     | inr other ↦
-        ap (block_of_span front words') (value_at-set_other spans n k (Some s) other)
-        ∙ (other_span k other (value_at spans k) refl
-        ∙ (sym (value_at-slots front words spans k) ∙ sym (value_at-set_other old_slots n k new_block other)))
+        grind (arith, value_at-set_other, other_span, value_at-slots, old_slots, new_block)
   ]
 
   same_length : length new_slots ≡ length (slice_set old_slots n new_block)
-  same_length =
-      length-map (slice_set spans n (Some s)) (block_of_span front words') ∙ (length-set spans n (Some s)
-      ∙ sym (length-set old_slots n new_block ∙ length-map spans (block_of_span front words)))
+  same_length = grind (arith, length-map, slice_set, length-set, old_slots, new_block)
 
   after_write : IsAfterWrite front words words' starts' spans n s place len new
   after_write = record {
@@ -263,8 +197,7 @@ pub record IsLonger (front : ℕ) (words words' : List ℤ) (starts : List ℕ) 
 module _ (front : ℕ) (words words' : List ℤ) (starts : List ℕ) (spans : List (Option Span)) (len : ℕ)
     (a : AreSpans front words starts spans) (w : IsLengthened words words' len) where
   within_longer : (n : ℕ) (t : Span) → value_at spans n ≡ Some t → t.place + t.len ≤ length words'
-  within_longer n t there =
-      omega (arith, a.within n t there, w.long, le-max_left (length words) len)
+  within_longer n t there = grind arith
 
   kept_span : (n : ℕ) (o : Option Span) → value_at spans n ≡ o
       → block_of_span front words' o ≡ block_of_span front words o
@@ -282,7 +215,7 @@ module _ (front : ℕ) (words words' : List ℤ) (starts : List ℕ) (spans : Li
 
   pub longer : IsLonger front words words' starts spans
   longer = record {
-    are_spans = record { home = a.home; within = within_longer; reached = a.reached; started = a.started };
+    are_spans = grind arith;
     slots = ext_get_or None (slots_from front words' spans) (slots_from front words spans)
         (length-map spans (block_of_span front words') ∙ sym (length-map spans (block_of_span front words)))
         (λ n h. value_at-slots front words' spans n
@@ -294,15 +227,15 @@ pub words_of-span : (front : ℕ) (words : List ℤ) (spans : List (Option Span)
     → value_at spans n ≡ Some s → words_at (slots_from front words spans) n ≡ take s.len (drop s.place words)
 words_of-span front words spans n s there = ap words_of (value_at-there front words spans n s there)
 
-pub length-words_of-span : (front : ℕ) (words : List ℤ) (starts : List ℕ) (spans : List (Option Span)) (n : ℕ)
-    (s : Span) → AreSpans front words starts spans → value_at spans n ≡ Some s
-    → length (words_at (slots_from front words spans) n) ≡ s.len
-length-words_of-span front words starts spans n s a there =
+pub length-words_of-span : {front : ℕ} {words : List ℤ} {starts : List ℕ} {spans : List (Option Span)} (n : ℕ) (s :
+    Span) → AreSpans front words starts spans → value_at spans n ≡ Some s → length (words_at (slots_from front words
+    spans) n) ≡ s.len
+length-words_of-span {front} {words} {spans} n s a there =
     ap length (words_of-span front words spans n s there) ∙ length-part words s.place s.len (a.within n s there)
 
 pub covered_by_span : (front : ℕ) (words : List ℤ) (spans : List (Option Span)) (n : ℕ) (s : Span)
     → value_at spans n ≡ Some s → covered_at (slots_from front words spans) n ≡ covered_in front s
-covered_by_span front words spans n s there = ap covered_of (value_at-there front words spans n s there)
+covered_by_span front words spans n s there = grind (arith, value_at-there front words spans n s there)
 
 -- the place of a block is that of its span
 pub place_by_span : (front : ℕ) (words : List ℤ) (spans : List (Option Span)) (n : ℕ) (s : Span)
@@ -310,15 +243,14 @@ pub place_by_span : (front : ℕ) (words : List ℤ) (spans : List (Option Span)
 place_by_span front words spans n s there = ap place_of (value_at-there front words spans n s there)
 
 -- a block that is written in words that were made longer for it
-after_longer : (front : ℕ) (words long words' : List ℤ) (starts starts' : List ℕ) (spans : List (Option Span))
-    (n : ℕ) (s : Span) (place len : ℕ) (new : List ℤ) → AreSpans front words starts spans
-    → IsLengthened words long (s.place + s.len) → IsWritten long words' s.place new → IsAtHome front n s
-    → s.place - front ≡ place → covered_in front s ≡ len → (s.place < front → starts' ≡ starts)
-    → (front ≤ s.place → IsMarked starts starts' (s.place - front) s.len n) → s.len ≡ length new
-    → IsClear (slots_from front words spans) n place len → n < length spans
-    → IsAfterWrite front words words' starts' spans n s place len new
-after_longer front words long words' starts starts' spans n s place len new a w written home here covers own marked
-    size clear within =
+after_longer : {front : ℕ} {words long words' : List ℤ} {starts starts' : List ℕ} {spans : List (Option Span)} {n : ℕ}
+    {s : Span} {place len : ℕ} {new : List ℤ} → AreSpans front words starts spans → IsLengthened words long (s.place +
+    s.len) → IsWritten long words' s.place new → IsAtHome front n s → s.place - front ≡ place → covered_in front s ≡
+    len → (s.place < front → starts' ≡ starts) → (front ≤ s.place → IsMarked starts starts' (s.place - front) s.len n)
+    → s.len ≡ length new → IsClear (slots_from front words spans) n place len → n < length spans → IsAfterWrite front
+    words words' starts' spans n s place len new
+after_longer {front} {words} {long} {words'} {starts} {starts'} {spans} {n} {s} {place} {len} {new} a w written home
+    here covers own marked size clear within =
     let now = longer front words long starts spans (s.place + s.len) a w in
     let reached = le-max_right (length words) (s.place + s.len) in
     let after = after_write front long words' starts starts' spans n s place len new
@@ -337,8 +269,7 @@ after_longer front words long words' starts starts' spans n s place len new a w 
     }) in
     record {
       are_spans = after.are_spans;
-      slots = after.slots ∙ ap (λ slots. slice_set slots n
-          (Some (record { owner = s.owner; place = place; len = len; words = new }))) now.slots;
+      slots = grind arith;
     }
 
 -- a block of one word, in the word of its number
@@ -347,22 +278,19 @@ pub after_word : (front : ℕ) (words long words' : List ℤ) (starts : List ℕ
     → IsLengthened words long (n + 1) → IsWritten long words' n new → length new ≡ 1 → n < length spans
     → IsAfterWrite front words words' starts spans n (record { owner = owner; place = n; len = 1 }) 0 0 new
 after_word front words long words' starts spans n owner new a e w written size within =
-    after_longer front words long words' starts starts spans n (record { owner = owner; place = n; len = 1 }) 0 0 new
+    after_longer
     a w written (inl (refl, refl, omega arith)) (omega arith) (omega arith) (λ own. refl)
     (λ region. absurd (omega arith)) (sym size) (λ other word from below covers. absurd (omega arith)) within
 
 -- a block in the region
-after_region : (front : ℕ) (words long words' : List ℤ) (starts starts' : List ℕ) (spans : List (Option Span))
-    (n owner place len : ℕ) (new : List ℤ) → AreSpans front words starts spans
-    → IsLengthened words long (front + place + len) → IsWritten long words' (front + place) new
-    → IsMarked starts starts' place len n → len ≡ length new
-    → IsClear (slots_from front words spans) n place len → n < length spans
-    → IsAfterWrite front words words' starts' spans n (record { owner = owner; place = front + place; len = len })
-    place len new
-after_region front words long words' starts starts' spans n owner place len new a w written marked size clear within =
+after_region : {front : ℕ} {words long words' : List ℤ} {starts starts' : List ℕ} {spans : List (Option Span)} {n : ℕ}
+    (owner : ℕ) {place len : ℕ} {new : List ℤ} → AreSpans front words starts spans → IsLengthened words long (front +
+    place + len) → IsWritten long words' (front + place) new → IsMarked starts starts' place len n → len ≡ length new
+    → IsClear (slots_from front words spans) n place len → n < length spans → IsAfterWrite front words words' starts'
+    spans n (record { owner = owner; place = front + place; len = len }) place len new
+after_region {front} owner {place} a w written marked size clear within =
     let here : front + place - front ≡ place = omega arith in
-    after_longer front words long words' starts starts' spans n
-    (record { owner = owner; place = front + place; len = len }) place len new a w written (inr (omega arith)) here
+    after_longer a w written (inr (omega arith)) here
     (omega arith) (λ own. absurd (omega arith)) (λ region. rw here marked) size clear within
 
 -- a span that is moved, with its words
@@ -378,31 +306,22 @@ after_move front words long words' starts starts' spans n to s a there w clear w
     let same : take s.len (drop s.place long) ≡ take s.len (drop s.place words) =
     same_part long words s.place s.len (pos 0) (omega (arith, inside, more, w.long)) inside
     (λ i h. w.kept (s.place + i) (pos 0) (omega arith)) in
-    after_region front words long words' starts starts' spans n s.owner to s.len (take s.len (drop s.place words)) a w
+    after_region s.owner a w
     (rw same at written) marked (sym (length-part words s.place s.len inside)) clear
     (IsSome-in_range spans n (ap is_some there))
 
 -- a block that covers words lies in the region, with all its words
-pub in_region : (front : ℕ) (words : List ℤ) (starts : List ℕ) (spans : List (Option Span)) (n : ℕ) (s : Span)
-    → AreSpans front words starts spans → value_at spans n ≡ Some s
-    → 1 ≤ covered_at (slots_from front words spans) n
-    → (front ≤ s.place) × (covered_at (slots_from front words spans) n ≡ s.len)
-in_region front words starts spans n s a there some =
-    let covers = covered_by_span front words spans n s there in
-    elim (a.home n s there) [
-      | inl own ↦ absurd (omega (arith, own.0, own.1, own.2))
-      | inr region ↦ (region, omega arith)
-    ]
+pub in_region : {front : ℕ} {words : List ℤ} {starts : List ℕ} {spans : List (Option Span)} (n : ℕ) (s : Span) →
+    AreSpans front words starts spans → value_at spans n ≡ Some s → 1 ≤ covered_at (slots_from front words spans) n →
+    (front ≤ s.place) × (covered_at (slots_from front words spans) n ≡ s.len)
+in_region {front} {words} {spans} n s a there some = grind (arith, covered_by_span front words spans n s there)
 
 -- the block that was moved is the one that the number had
 pub moved_block : (front : ℕ) (words : List ℤ) (spans : List (Option Span)) (n to : ℕ) (s : Span)
     → value_at spans n ≡ Some s → front ≤ s.place
     → Some (record { owner = s.owner; place = to; len = s.len; words = take s.len (drop s.place words) })
     ≡ block_at_place to (value_at (slots_from front words spans) n)
-moved_block front words spans n to s there region =
-    let whole : s.len ≡ covered_in front s = omega arith in
-    ap (λ (len : ℕ). Some (record { owner = s.owner; place = to; len = len; words = take s.len (drop s.place words) }))
-    whole ∙ ap (block_at_place to) (sym (value_at-there front words spans n s there))
+moved_block front words spans n to s there region = grind (arith, value_at-there front words spans n s there)
 
 abbrev pub layout_of : ℕ → List (Option PlacedBlock) → Layout
 layout_of size slots = record { size = size; slots = slots }
@@ -419,15 +338,13 @@ pub slots-set : (words : List ℤ) (spans : List (Option Span)) (n : ℕ) (o : O
 slots-set words spans n o slots is = rw (length-set spans n o) is
 
 -- a new block in the region, in words that no block covers
-pub after_put : (front : ℕ) (words long words' : List ℤ) (starts starts' : List ℕ) (spans : List (Option Span))
-    (n owner place len : ℕ) (new : List ℤ) → AreSpans front words starts spans
-    → IsLengthened words long (front + place + len) → IsBare (slots_from front words spans) place len
-    → len ≡ length new → IsWritten long words' (front + place) new → IsMarked starts starts' place len n
-    → n < length spans
-    → IsAfterWrite front words words' starts' spans n (record { owner = owner; place = front + place; len = len })
-    place len new
-after_put front words long words' starts starts' spans n owner place len new a w bare size written marked within =
-    after_region front words long words' starts starts' spans n owner place len new a w written marked size
+pub after_put : {front : ℕ} {words long words' : List ℤ} {starts starts' : List ℕ} {spans : List (Option Span)} {n :
+    ℕ} (owner : ℕ) {place len : ℕ} {new : List ℤ} → AreSpans front words starts spans → IsLengthened words long (front
+    + place + len) → IsBare (slots_from front words spans) place len → len ≡ length new → IsWritten long words' (front
+    + place) new → IsMarked starts starts' place len n → n < length spans → IsAfterWrite front words words' starts'
+    spans n (record { owner = owner; place = front + place; len = len }) place len new
+after_put owner a w bare size written marked within =
+    after_region owner a w written marked size
     (λ other word from below covers. absurd (bare other word from below covers)) within
 
 -- what lies in the memory after a block was written over
@@ -438,12 +355,11 @@ pub record IsAfterRewrite (front : ℕ) (words words' : List ℤ) (starts : List
       (block_with_words new (value_at (slots_from front words spans) n))
 
 -- a block that is written over, in words that no other block covers
-pub after_rewrite : (front : ℕ) (words words' : List ℤ) (starts : List ℕ) (spans : List (Option Span)) (n : ℕ)
-    (s : Span) (new : List ℤ) → AreSpans front words starts spans → value_at spans n ≡ Some s
-    → IsWritten words words' s.place new → s.len ≡ length new
-    → IsClear (slots_from front words spans) n (s.place - front) (covered_in front s)
+pub after_rewrite : {front : ℕ} {words words' : List ℤ} {starts : List ℕ} {spans : List (Option Span)} {n : ℕ} (s :
+    Span) {new : List ℤ} → AreSpans front words starts spans → value_at spans n ≡ Some s → IsWritten words words'
+    s.place new → s.len ≡ length new → IsClear (slots_from front words spans) n (s.place - front) (covered_in front s)
     → IsAfterRewrite front words words' starts spans n new
-after_rewrite front words words' starts spans n s new a there written size clear =
+after_rewrite {front} {words} {words'} {starts} {spans} {n} s {new} a there written size clear =
     let after = after_write front words words' starts starts spans n s (s.place - front) (covered_in front s) new
     (record {
       are_spans = a;
@@ -452,27 +368,19 @@ after_rewrite front words words' starts spans n s new a there written size clear
       here = refl;
       covers = refl;
       unmarked = λ own. refl;
-      marked = λ region. record {
-        longer = omega arith;
-        reached = λ some. a.reached n s there region some;
-        marked = λ some. a.started n s there region some;
-        others = λ i other inside. refl;
-        kept = λ none. refl;
-      };
+      marked = grind arith;
       long = size;
       fits = a.within n s there;
       clear = clear;
       in_range = IsSome-in_range spans n (ap is_some there);
     }) in
     let same : slice_set spans n (Some s) ≡ spans =
-    ap (λ (o : Option Span). slice_set spans n o) (sym there) ∙ set-get_or spans n None in
+    grind (arith, slice_set, set-get_or) in
     let is = value_at-there front words spans n s there in
     record {
-      are_spans = subst (λ (l : List (Option Span)). AreSpans front words' starts l) same after.are_spans;
+      are_spans = grind arith;
       slots =
-          ap (λ (l : List (Option Span)). slots_from front words' l) (sym same)
-          ∙ (after.slots ∙ ap (λ (o : Option PlacedBlock). slice_set (slots_from front words spans) n
-          (block_with_words new o)) (sym is));
+          grind arith;
     }
 
 -- a block's words are those of its span
@@ -483,28 +391,17 @@ words_of_span front words (Some s) = refl
 
 pub words_by_span : (front : ℕ) (words : List ℤ) (spans : List (Option Span)) (n : ℕ)
     → words_at (slots_from front words spans) n ≡ words_in words (span_in spans n)
-words_by_span front words spans n =
-    ap words_of (value_at-slots front words spans n) ∙ words_of_span front words (value_at spans n)
+words_by_span front words spans n = search (rules, value_at-slots, words_of_span)
 
 pub all_by_span : (front : ℕ) (words : List ℤ) (spans : List (Option Span)) (lent : List ℕ)
     → map (λ n. words_in words (span_in spans n)) lent ≡ map (words_at (slots_from front words spans)) lent
 all_by_span front words spans lent = λ i. map (λ n. sym (words_by_span front words spans n) i) lent
 
-some_span : (front : ℕ) (words : List ℤ) (o : Option Span) → is_some (block_of_span front words o) ≡ is_some o
-some_span front words None = refl
-some_span front words (Some s) = refl
-
-pub has_span : (front : ℕ) (words : List ℤ) (spans : List (Option Span)) (n : ℕ)
-    → is_some (value_at (slots_from front words spans) n) ≡ is_some (value_at spans n)
-has_span front words spans n =
-    ap is_some (value_at-slots front words spans n) ∙ some_span front words (value_at spans n)
-
 -- a span lies apart from words of the region of which its block covers none
-pub span_apart : (front : ℕ) (words : List ℤ) (starts : List ℕ) (spans : List (Option Span)) (n place len : ℕ)
-    → AreSpans front words starts spans
-    → ((word : ℕ) → place ≤ word → word < place + len → Covers (slots_from front words spans) n word → ⊥)
-    → IsApart (length words) (front + place) len (span_in spans n)
-span_apart front words starts spans n place len a bare = by_span (value_at spans n) refl
+pub span_apart : {front : ℕ} {words : List ℤ} {starts : List ℕ} {spans : List (Option Span)} (n place len : ℕ) →
+    AreSpans front words starts spans → ((word : ℕ) → place ≤ word → word < place + len → Covers (slots_from front
+    words spans) n word → ⊥) → IsApart (length words) (front + place) len (span_in spans n)
+span_apart {front} {words} {spans} n place len a bare = by_span (value_at spans n) refl
   where
     beside : (s : Span) → value_at spans n ≡ Some s → front ≤ s.place → 0 < len → 0 < s.len
         → (s.place + s.len ≤ front + place) ⊎ (front + place + len ≤ s.place)
@@ -515,9 +412,9 @@ span_apart front words starts spans n place len a bare = by_span (value_at spans
             | inr behind ↦ inr behind
             | inl under ↦ elim (cases_lt s.place (front + place)) [
               | inl lower ↦ absurd (bare place (omega arith) (omega arith)
-                  (Covers-span front words spans n place s there region (omega arith) over))
+                  (Covers-span front words spans s there region (omega arith) over))
               | inr higher ↦ absurd (bare (s.place - front) (omega arith) (omega arith)
-                  (Covers-span front words spans n (s.place - front) s there region (omega arith) (omega arith)))
+                  (Covers-span front words spans s there region (omega arith) (omega arith)))
             ]
           ]
         ]
@@ -549,7 +446,7 @@ other_apart front words starts spans n m s a there other clear =
           let here : front + (s.place - front) ≡ s.place = omega arith in
           let whole : covered_in front s ≡ s.len = omega arith in
           subst (λ (place : ℕ). IsApart (length words) place s.len (span_in spans m)) here
-          (span_apart front words starts spans m (s.place - front) s.len a
+          (span_apart m (s.place - front) s.len a
           (λ word from below covers. other (clear m word from (rw whole below) covers)))
     ]
   where
@@ -574,39 +471,19 @@ other_apart front words starts spans n m s a there other clear =
 pub slots_from-remove : (words : List ℤ) (spans : List (Option Span)) (n : ℕ)
     → slots_from (length (slice_set spans n None)) words (slice_set spans n None)
     ≡ slice_set (slots_from (length spans) words spans) n None
-slots_from-remove words spans n =
-    slots-set words spans n None (slice_set (slots_from (length spans) words spans) n None)
-    (map-set (block_of_span (length spans) words) spans n None)
+slots_from-remove words spans n = search (rules, slots-set, slice_set, map-set)
 
 -- the blocks of a memory after one went
 pub blocks-remove : (words : List ℤ) (starts : List ℕ) (spans : List (Option Span)) (size room starts_room n : ℕ)
     → AreBlocks (length spans) words starts spans size room starts_room → n < length spans
     → AreBlocks (length (slice_set spans n None)) words starts (slice_set spans n None) size room starts_room
-blocks-remove words starts spans size room starts_room n b inside =
-    rw (length-set spans n None) (record {
-      home = λ k s there. b.home k s (still k s there);
-      within = λ k s there. b.within k s (still k s there);
-      reached = λ k s there region some. b.reached k s (still k s there) region some;
-      started = λ k s there region some. b.started k s (still k s there) region some;
-      few = b.few;
-      words_room = b.words_room;
-      starts_room = b.starts_room;
-    })
-  where
-    still : (k : ℕ) (s : Span) → value_at (slice_set spans n None) k ≡ Some s → value_at spans k ≡ Some s
-    still k s there =
-        elim (cases_eq k n) [
-          | inl same ↦
-              absurd (None≢Some s (sym (ap (value_at (slice_set spans n None)) same
-              ∙ value_at-set_same spans n None inside) ∙ there))
-          | inr other ↦ sym (value_at-set_other spans n k None other) ∙ there
-        ]
+blocks-remove words starts spans size room starts_room n b inside = search (rules, length-set)
 
 -- no block at first
 pub slots_from-empty : (front : ℕ) (words : List ℤ) (n : ℕ)
     → slots_from front words (replicate n None) ≡ replicate n None
 slots_from-empty front words zero = refl
-slots_from-empty front words (suc n) = ap (λ slots. None ∷ slots) (slots_from-empty front words n)
+slots_from-empty front words (suc n) = grind (arith, slots_from-empty front words n)
 
 pub are_none : (front : ℕ) (words : List ℤ) (starts : List ℕ) (spans : List (Option Span))
     (size words_capacity starts_capacity most : ℕ) → spans ≡ replicate most None → length words ≡ 0
@@ -635,10 +512,9 @@ record BeginsBySpan (front : ℕ) (starts : List ℕ) (spans : List (Option Span
   start : slice_index starts place ≡ n
   reached : place < length starts
 
-begins_by-span : (front : ℕ) (words : List ℤ) (starts : List ℕ) (spans : List (Option Span)) (n place : ℕ)
-    → AreSpans front words starts spans → Begins (slots_from front words spans) n place
-    → BeginsBySpan front starts spans n place
-begins_by-span front words starts spans n place a b = by_span (value_at spans n) refl
+begins_by-span : {front : ℕ} {words : List ℤ} {starts : List ℕ} {spans : List (Option Span)} {n place : ℕ} → AreSpans
+    front words starts spans → Begins (slots_from front words spans) n place → BeginsBySpan front starts spans n place
+begins_by-span {front} {words} {starts} {spans} {n} {place} a b = by_span (value_at spans n) refl
   where
     by_span : (o : Option Span) → value_at spans n ≡ o → BeginsBySpan front starts spans n place
     by_span None there =
@@ -666,30 +542,21 @@ begins_by-span front words starts spans n place a b = by_span (value_at spans n)
         ]
 
 -- if the number at a place has no block with words that begins there, no number has
-pub none_begins : (front : ℕ) (words : List ℤ) (starts : List ℕ) (spans : List (Option Span)) (place m : ℕ)
-    → AreSpans front words starts spans → place < length starts → m ≡ slice_index_or starts place m
-    → ((s : Span) → value_at spans m ≡ Some s → s.place ≡ front + place → 0 < s.len → ⊥) → (n : ℕ)
-    → Begins (slots_from front words spans) n place → ⊥
-none_begins front words starts spans place m a inside read none n b =
-    let by_span = begins_by-span front words starts spans n place a b in
-    let same : m ≡ n = read ∙ (get_or_default starts place m 0 inside ∙ by_span.start) in
-    none by_span.span (rw same by_span.there) by_span.here by_span.some
+pub none_begins : {front : ℕ} {words : List ℤ} {starts : List ℕ} {spans : List (Option Span)} {place : ℕ} (m : ℕ) →
+    AreSpans front words starts spans → place < length starts → m ≡ slice_index_or starts place m → ((s : Span) →
+    value_at spans m ≡ Some s → s.place ≡ front + place → 0 < s.len → ⊥) → (n : ℕ) → Begins (slots_from front words
+    spans) n place → ⊥
+none_begins {starts} {place} m a inside read none n b =
+    grind (arith, begins_by-span a b, get_or_default starts place m 0 inside)
 
 -- no block with words begins past the highest word at which one began so far
 pub none_past : (front : ℕ) (words : List ℤ) (starts : List ℕ) (spans : List (Option Span)) (place : ℕ)
     → AreSpans front words starts spans → length starts ≤ place → (n : ℕ)
     → Begins (slots_from front words spans) n place → ⊥
-none_past front words starts spans place a past n b =
-    let by_span = begins_by-span front words starts spans n place a b in
-    omega (arith, by_span.reached)
+none_past front words starts spans place a past n b = grind (arith, begins_by-span a b)
 
 pub begins-span : (front : ℕ) (words : List ℤ) (spans : List (Option Span)) (n place : ℕ) (s : Span)
     → value_at spans n ≡ Some s → s.place ≡ front + place → 0 < s.len
     → Begins (slots_from front words spans) n place
 begins-span front words spans n place s there here some =
-    record {
-      block = span_block front words s;
-      there = value_at-there front words spans n s there;
-      here = omega arith;
-      some = omega arith;
-    }
+    grind (arith, span_block front words s, value_at-there front words spans n s there)

@@ -51,10 +51,10 @@ used_words-without_block c id live =
 
 none_back : (c : Content) (id : ℕ) → block_at c id ≡ None → without_block c id ≡ c
 none_back [] id e = refl
-none_back (o ∷ c) zero e = ap (λ (p : Option Block). p ∷ c) (sym e)
-none_back (o ∷ c) (suc id) e = ap (λ (d : Content). o ∷ d) (none_back c id e)
+none_back (o ∷ c) zero e = cc
+none_back (o ∷ c) (suc id) e = grind (arith, none_back c id e)
 
 -- a block that comes and goes leaves nothing
 pub comes_and_goes : (c : Content) (id : ℕ) (b : Block) → block_at c id ≡ None →
     without_block (with_block c id b) id ≡ c
-comes_and_goes c id b empty = set-set c id (Some b) None ∙ none_back c id empty
+comes_and_goes c id b empty = grind (arith, set-set, none_back)

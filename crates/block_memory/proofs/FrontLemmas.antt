@@ -13,7 +13,7 @@ use Rattle.block_memory.proofs.SlideLemmas.{after_no_move}
 pub lowest-within : (free : List Bool) → lowest_free free ≤ length free
 lowest-within [] = omega arith
 lowest-within (true ∷ free) = omega arith
-lowest-within (false ∷ free) = let rest = lowest-within free in omega (arith, rest)
+lowest-within (false ∷ free) = omega (arith, lowest-within free)
 
 lowest-none_below : (free : List Bool) (word : ℕ) → word < lowest_free free → is_free free word ≡ false
 lowest-none_below [] word below = absurd (omega arith)
@@ -24,9 +24,7 @@ lowest-none_below (false ∷ free) (suc word) below = lowest-none_below free wor
 lowest-is_free : (free : List Bool) → lowest_free free < length free → is_free free (lowest_free free) ≡ true
 lowest-is_free [] within = absurd (omega arith)
 lowest-is_free (true ∷ free) within = refl
-lowest-is_free (false ∷ free) within =
-    let next : 1 + lowest_free free ≡ suc (lowest_free free) = omega arith in
-    ap (is_free (false ∷ free)) next ∙ lowest-is_free free (omega arith)
+lowest-is_free (false ∷ free) within = grind (arith, lowest-is_free free (omega arith))
 
 -- a block that lies right after those that are packed, and ends no later than at `front`
 record IsPassed (layout : Layout) (used front place : ℕ) : Type 0 where
@@ -73,15 +71,13 @@ module _ (layout : Layout) (holes : Region) (used : ℕ) (r : IsRegion layout ho
         some = some;
         below = omega (arith, here, ends);
         packing =
-            IsPacking-moved layout layout layout place place used n p.len i begins stays (sym (ap covered_of there));
+            IsPacking-moved p.len i begins stays (sym (ap covered_of there));
       }
 
   pass_all : (steps place : ℕ) → lowest_free holes.free ≤ place + steps → place ≤ lowest_free holes.free
       → IsPacking layout layout place place used
       → IsPacking layout layout (lowest_free holes.free) (lowest_free holes.free) used
-  pass_all zero place enough within i =
-      let end : place ≡ lowest_free holes.free = omega arith in
-      subst (λ k. IsPacking layout layout k k used) end i
+  pass_all zero place enough within i = grind arith
   pass_all (suc steps) place enough within i =
       elim (cases_lt place (lowest_free holes.free)) [
         | inr past ↦
@@ -103,9 +99,6 @@ pub record IsBegun (layout : Layout) (used front : ℕ) : Type 0 where
   pub packing : IsPacking layout layout front front used
   pub within : front ≤ layout.size
 
-pub is_begun : (layout : Layout) (holes : Region) (used front : ℕ) → IsRegion layout holes used
-    → front ≡ lowest_free holes.free → IsBegun layout used front
-is_begun layout holes used front r is = record {
-  packing = subst (λ k. IsPacking layout layout k k used) (sym is) (IsPacking-lowest layout holes used r);
-  within = let within = lowest-within holes.free in omega (arith, within, is, r.same_size);
-}
+pub is_begun : {layout : Layout} {holes : Region} {used front : ℕ} → IsRegion layout holes used → front ≡ lowest_free
+    holes.free → IsBegun layout used front
+is_begun {layout} {holes} {used} r is = grind (arith, IsPacking-lowest layout holes used r, lowest-within holes.free)

@@ -1,26 +1,24 @@
 -- Lemmas on the places of blocks.
 use Rattle.std.proofs.Common.{◌≡◌, ◌≢◌, ◌⊎◌, ℕ, ◌+◌, ◌<◌, ◌≤◌, List, length, take, drop, slice_index_or, slice_set}
-use Rattle.std.proofs.Common.{Option, Some, None, is_some, inl, inr, refl, sym, ap, ◌∙◌, arith}
+use Rattle.std.proofs.Common.{Option, Some, None, is_some, inl, inr, refl, sym, ap, ◌∙◌, arith, rules}
 use Rattle.std.proofs.lemmas.Bool.{cases_eq}
 use Rattle.std.proofs.lemmas.List.{get_or-take, get_or-drop, length-take-le, length-drop, ext_get_or, get_or-set_same}
 use Rattle.std.proofs.lemmas.List.{get_or-set_other}
 use Rattle.std.proofs.Math.ListN.{get_or-map}
-use Rattle.block_memory.specs.Content.{block_at, block_count, words_of as content_words_of}
-use Rattle.block_memory.specs.Content.{words_at as content_words_at}
+use Rattle.block_memory.specs.Content.{block_at, block_count, words_at as content_words_at}
 use Rattle.block_memory.specs.Table.{value_at, value_count}
-use Rattle.block_memory.specs.Layout.{PlacedBlock, Covers, IsClear, block_of, content_of, words_of, words_at}
+use Rattle.block_memory.specs.Layout.{PlacedBlock, Covers, IsClear, block_of, content_of, words_at}
 use Rattle.block_memory.specs.Region.{AreApart, AreWithin}
 use Rattle.block_memory.proofs.Lists.{same_some, None≢Some, value_count-map}
 
 module _ {X : Type 0} where
   -- as many elements as are there
   pub length-part : (xs : List X) (from len : ℕ) → from + len ≤ length xs → length (take len (drop from xs)) ≡ len
-  length-part xs from len h = let rest = length-drop from xs in
-      length-take-le len (drop from xs) (omega (arith, rest))
+  length-part xs from len h = grind (arith, length-drop, length-take-le)
 
   get_or-part : (xs : List X) (from len i : ℕ) (d : X) → i < len
       → slice_index_or (take len (drop from xs)) i d ≡ slice_index_or xs (from + i) d
-  get_or-part xs from len i d h = get_or-take len (drop from xs) i d h ∙ get_or-drop from xs i d
+  get_or-part xs from len i d h = grind (arith, get_or-take, get_or-drop)
 
   -- a part of two lists that are alike there
   pub same_part : (xs ys : List X) (from len : ℕ) (d : X) → from + len ≤ length xs → from + len ≤ length ys
@@ -43,80 +41,39 @@ module _ {X : Type 0} where
   value_at-set_other xs n k v h = get_or-set_other xs n k v None h
 
 -- a block that covers a word after what the number has was changed: the new one, or another as before
-pub Covers-set : (slots : List (Option PlacedBlock)) (n k word : ℕ) (p : PlacedBlock) → n < length slots
-    → Covers (slice_set slots n (Some p)) k word
-    → ((k ≡ n) × ((p.place ≤ word) × (word < p.place + p.len))) ⊎ ((k ≢ n) × Covers slots k word)
-Covers-set slots n k word p within c =
-    elim (cases_eq k n) [
-      | inl same ↦
-          let is : c.block ≡ p =
-          same_some c.block p (sym c.there
-          ∙ (ap (value_at (slice_set slots n (Some p))) same ∙ value_at-set_same slots n (Some p) within)) in
-          let from : p.place ≤ word = rw is at c.from in
-          let below : word < p.place + p.len = rw is at c.below in
-          inl (same, (from, below))
-      | inr other ↦
-          inr (
-            other,
-            record {
-              block = c.block;
-              there =
-                  sym (value_at-set_other slots n k (Some p) other) ∙ c.there;
-              from = c.from;
-              below = c.below;
-            },
-          )
-    ]
+pub Covers-set : (slots : List (Option PlacedBlock)) (n : ℕ) {k word : ℕ} (p : PlacedBlock) → n < length slots →
+    Covers (slice_set slots n (Some p)) k word → ((k ≡ n) × ((p.place ≤ word) × (word < p.place + p.len))) ⊎ ((k ≢ n)
+    × Covers slots k word)
+Covers-set slots n p within c = grind (arith, same_some, slice_set, value_at-set_same, value_at-set_other)
 
-pub Covers-set_here : (slots : List (Option PlacedBlock)) (n word : ℕ) (p : PlacedBlock) → n < length slots
-    → p.place ≤ word → word < p.place + p.len → Covers (slice_set slots n (Some p)) n word
-Covers-set_here slots n word p within from below =
-    record { block = p; there = value_at-set_same slots n (Some p) within; from = from; below = below }
+pub Covers-set_here : (slots : List (Option PlacedBlock)) {n word : ℕ} (p : PlacedBlock) → n < length slots → p.place
+    ≤ word → word < p.place + p.len → Covers (slice_set slots n (Some p)) n word
+Covers-set_here slots p within from below = search (rules, value_at-set_same)
 
-pub Covers-set_other : (slots : List (Option PlacedBlock)) (n k word : ℕ) (o : Option PlacedBlock) → k ≢ n
-    → Covers slots k word → Covers (slice_set slots n o) k word
-Covers-set_other slots n k word o other c =
-    record { block = c.block; there = value_at-set_other slots n k o other ∙ c.there; from = c.from; below = c.below }
+pub Covers-set_other : {slots : List (Option PlacedBlock)} (n : ℕ) {k word : ℕ} (o : Option PlacedBlock) → k ≢ n →
+    Covers slots k word → Covers (slice_set slots n o) k word
+Covers-set_other n o other c = grind (arith, value_at-set_other)
 
 -- a block that covers a word after one was taken away is another, as before
-pub Covers-set_none : (slots : List (Option PlacedBlock)) (n k word : ℕ) → n < length slots
-    → Covers (slice_set slots n None) k word → (k ≢ n) × Covers slots k word
-Covers-set_none slots n k word within c =
-    elim (cases_eq k n) [
-      | inl same ↦
-          absurd (None≢Some c.block (sym (value_at-set_same slots n None within)
-          ∙ (ap (value_at (slice_set slots n None)) (sym same) ∙ c.there)))
-      | inr other ↦ (
-        other,
-        record {
-          block = c.block;
-          there = sym (value_at-set_other slots n k None other) ∙ c.there;
-          from =
-              c.from;
-          below = c.below;
-        },
-      )
-    ]
+pub Covers-set_none : (slots : List (Option PlacedBlock)) (n : ℕ) {k word : ℕ} → n < length slots → Covers (slice_set
+    slots n None) k word → (k ≢ n) × Covers slots k word
+Covers-set_none slots n within c = grind (arith, value_at-set_same, slice_set, value_at-set_other)
 
 -- a block covers no word but those from its place on
-pub Covers-by : (slots : List (Option PlacedBlock)) (n word : ℕ) (p : PlacedBlock) → value_at slots n ≡ Some p
-    → Covers slots n word → (p.place ≤ word) × (word < p.place + p.len)
-Covers-by slots n word p there c =
-    let is : c.block ≡ p = same_some c.block p (sym c.there ∙ there) in
-    let from : p.place ≤ word = rw is at c.from in
-    let below : word < p.place + p.len = rw is at c.below in
-    (from, below)
+pub Covers-by : {slots : List (Option PlacedBlock)} {n word : ℕ} (p : PlacedBlock) → value_at slots n ≡ Some p →
+    Covers slots n word → (p.place ≤ word) × (word < p.place + p.len)
+Covers-by p there c = grind arith
 
 -- blocks that lie apart still do after one was put to a place at which it covers no word of another
 pub AreApart-set : (slots : List (Option PlacedBlock)) (n : ℕ) (p : PlacedBlock) → n < length slots → AreApart slots
     → IsClear slots n p.place p.len → AreApart (slice_set slots n (Some p))
 AreApart-set slots n p within apart clear k m word a b =
-    elim (Covers-set slots n k word p within a) [
-      | inl here ↦ elim (Covers-set slots n m word p within b) [
+    elim (Covers-set slots n p within a) [
+      | inl here ↦ elim (Covers-set slots n p within b) [
         | inl too ↦ here.0 ∙ sym too.0
         | inr other ↦ absurd (other.0 (clear m word here.1.0 here.1.1 other.1))
       ]
-      | inr other ↦ elim (Covers-set slots n m word p within b) [
+      | inr other ↦ elim (Covers-set slots n p within b) [
         | inl here ↦ absurd (other.0 (clear k word here.1.0 here.1.1 other.1))
         | inr too ↦ apart k m word other.1 too.1
       ]
@@ -151,11 +108,7 @@ block_at-content_of slots n = get_or-map block_of slots n None
 
 pub words_at-content_of : (slots : List (Option PlacedBlock)) (n : ℕ)
     → content_words_at (content_of slots) n ≡ words_at slots n
-words_at-content_of slots n = ap content_words_of (block_at-content_of slots n) ∙ words_of-block_of (value_at slots n)
-  where
-    words_of-block_of : (o : Option PlacedBlock) → content_words_of (block_of o) ≡ words_of o
-    words_of-block_of None = refl
-    words_of-block_of (Some p) = refl
+words_at-content_of slots n = grind (arith, block_at-content_of)
 
 is_some-block_of : (o : Option PlacedBlock) → is_some (block_of o) ≡ is_some o
 is_some-block_of None = refl
@@ -163,7 +116,7 @@ is_some-block_of (Some p) = refl
 
 pub is_some-content_of : (slots : List (Option PlacedBlock)) (n : ℕ)
     → is_some (block_at (content_of slots) n) ≡ is_some (value_at slots n)
-is_some-content_of slots n = ap is_some (block_at-content_of slots n) ∙ is_some-block_of (value_at slots n)
+is_some-content_of slots n = grind (arith, is_some, block_at-content_of, is_some-block_of)
 
 pub block_count-content_of : (slots : List (Option PlacedBlock)) → block_count (content_of slots) ≡ value_count slots
 block_count-content_of slots = value_count-map block_of is_some-block_of slots

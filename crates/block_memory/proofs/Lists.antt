@@ -1,7 +1,6 @@
 -- Lemmas on values that may be missing, and on lists of them.
 use Rattle.std.proofs.Common.{◌≡◌, ℕ, ◌+◌, ◌<◌, List, [], ◌∷◌, Bool, length, map, slice_set, Option, Some, None}
-use Rattle.std.proofs.Common.{is_some, IsSome, Vec, true, false, cond, slice_index_or, ◌≤◌, refl, sym, ap, ◌∙◌, arith}
-use Rattle.std.proofs.Math.Nat.{max-eq_left, max-eq_right}
+use Rattle.std.proofs.Common.{is_some, IsSome, Vec, true, false, cond, slice_index_or, ◌≤◌, refl, ap, arith}
 use Rattle.std.specs.Vec.{with_items}
 use Rattle.std.proofs.lemmas.List.{get_or_past, with_items_is}
 use Rattle.std.proofs.lemmas.List.Sums.{sum_by-set, sum_by-cons}
@@ -32,31 +31,17 @@ module _ {T : Type 0} where
   -- a value goes to an empty number
   pub value_count-insert : (slots : List (Option T)) (n : ℕ) (v : T) → n < length slots → value_at slots n ≡ None
       → value_count (slice_set slots n (Some v)) ≡ value_count slots + 1
-  value_count-insert slots n v h e =
-      let one_if_value : Option T → ℕ = λ o. cond (is_some o) 1 0 in
-      let change = sum_by-set one_if_value slots n (Some v) None h in
-      let was : one_if_value (value_at slots n) ≡ 0 = ap one_if_value e in
-      omega (arith, change, was)
+  value_count-insert slots n v h e = grind (arith, is_some, sum_by-set)
 
   -- the value of a number goes
   pub value_count-remove : (slots : List (Option T)) (n : ℕ) → IsSome (value_at slots n)
       → value_count (slice_set slots n None) + 1 ≡ value_count slots
-  value_count-remove slots n h =
-      let one_if_value : Option T → ℕ = λ o. cond (is_some o) 1 0 in
-      let one_if : Bool → ℕ = λ b. cond b 1 0 in
-      let change = sum_by-set one_if_value slots n None None (IsSome-in_range slots n h) in
-      let was : one_if_value (value_at slots n) ≡ 1 = ap one_if h in
-      omega (arith, change, was)
+  value_count-remove slots n h = grind (arith, is_some, sum_by-set, IsSome-in_range)
 
   -- another value comes in the place of one
   pub value_count-set : (slots : List (Option T)) (n : ℕ) (v : T) → IsSome (value_at slots n)
       → value_count (slice_set slots n (Some v)) ≡ value_count slots
-  value_count-set slots n v h =
-      let one_if_value : Option T → ℕ = λ o. cond (is_some o) 1 0 in
-      let one_if : Bool → ℕ = λ b. cond b 1 0 in
-      let change = sum_by-set one_if_value slots n (Some v) None (IsSome-in_range slots n h) in
-      let was : one_if_value (value_at slots n) ≡ 1 = ap one_if h in
-      omega (arith, change, was)
+  value_count-set slots n v h = grind (arith, is_some, sum_by-set, IsSome-in_range)
 
 -- a list has as many values as one that is made of it value by value
 pub value_count-map : {X Y : Type 0} (f : Option X → Option Y) → ((o : Option X) → is_some (f o) ≡ is_some o)
@@ -73,16 +58,11 @@ value_count-map f same (o ∷ slots) =
 -- what a vector keeps after its elements were written over
 pub items_after_write : {X Z : Type 0} (v : Vec X Z) (old new : List X) → old ≡ v.items → length new ≡ length old
     → (with_items v new).items ≡ new
-items_after_write v old new whole same = with_items_is v new (same ∙ (ap length whole ∙ sym v.ok.0))
+items_after_write v old new whole same = grind (arith, with_items_is)
 
 module _ {X : Type 0} where
-  -- a list that is long enough
-  pub long_enough : (xs : List X) (len : ℕ) → len ≤ length xs → IsLengthened xs xs len
-  long_enough xs len h = record { long = sym (max-eq_left h); kept = λ k d below. refl }
-
   -- a list that gets items past its end
   pub with_more : (old new : List X) (len : ℕ) → length old ≤ len → length new ≡ len
       → ((k : ℕ) (d : X) → k < len → k < length old → slice_index_or new k d ≡ slice_index_or old k d)
       → IsLengthened old new len
-  with_more old new len h long kept =
-      record { long = long ∙ sym (max-eq_right h); kept = λ k d below. kept k d (omega arith) below }
+  with_more old new len h long kept = grind arith

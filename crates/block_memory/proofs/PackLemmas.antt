@@ -1,13 +1,13 @@
 -- Lemmas on moving blocks together: what holds while the blocks before a place were moved and the others not yet.
-use Rattle.std.proofs.Common.{◌≡◌, ◌≢◌, ◌⊎◌, ℕ, zero, suc, ◌+◌, ◌<◌, ◌≤◌, Bool, List, [], ◌∷◌, length, slice_set}
+use Rattle.std.proofs.Common.{◌≡◌, ◌≢◌, ◌⊎◌, ℕ, zero, suc, ◌+◌, ◌<◌, ◌≤◌, List, [], ◌∷◌, length, slice_set}
 use Rattle.std.proofs.Common.{Option, Some, None, is_some, cond, sum_by, inl, inr, refl, sym, ap, subst, ◌∙◌, arith}
 use Rattle.std.specs.Prelude.{nat_le}
-use Rattle.std.proofs.lemmas.Bool.{cases_eq, cases_lt, le-leb, lt-leb}
+use Rattle.std.proofs.lemmas.Bool.{cases_eq, cases_lt}
 use Rattle.std.proofs.lemmas.List.Sums.{sum_by-cons, sum_by-set, get_or-le-sum_by}
 use Rattle.std.proofs.Math.Seq.{map-set_same}
 use Rattle.block_memory.specs.Table.{value_at}
-use Rattle.block_memory.specs.Layout.{PlacedBlock, Layout, Covers, Begins, IsClear, block_of, content_of, with_slot}
-use Rattle.block_memory.specs.Layout.{covered_of, covered_at, covered_words, block_at_place, layout_after_move}
+use Rattle.block_memory.specs.Layout.{PlacedBlock, Layout, Covers, Begins, IsClear, content_of, with_slot}
+use Rattle.block_memory.specs.Layout.{covered_of, covered_at, covered_words, layout_after_move}
 use Rattle.block_memory.specs.Region.{AreApart, AreWithin, IsCovered, ArePacked}
 use Rattle.block_memory.proofs.Lists.{IsSome-in_range, same_some}
 use Rattle.block_memory.proofs.LayoutLemmas.{value_at-set_same, value_at-set_other, Covers-set_here, Covers-set_other}
@@ -54,10 +54,10 @@ no_sum f (x ∷ xs) h =
     omega (arith, sum_by-cons f x xs, first, others)
 
 words_from-behind : (place : ℕ) (p : PlacedBlock) → place ≤ p.place → words_from place (Some p) ≡ p.len
-words_from-behind place p h = let pick : Bool → ℕ = λ b. cond b p.len 0 in ap pick (le-leb place p.place h)
+words_from-behind place p h = grind arith
 
 words_from-before : (place : ℕ) (p : PlacedBlock) → p.place < place → words_from place (Some p) ≡ 0
-words_from-before place p h = let pick : Bool → ℕ = λ b. cond b p.len 0 in ap pick (lt-leb place p.place h)
+words_from-before place p h = grind arith
 
 words_from-none : (place : ℕ) (o : Option PlacedBlock)
     → ((p : PlacedBlock) → o ≡ Some p → place ≤ p.place → p.len ≡ 0) → words_from place o ≡ 0
@@ -75,9 +75,9 @@ words_from-same : (place next : ℕ) (o : Option PlacedBlock) → place ≤ next
 words_from-same place next None order h = refl
 words_from-same place next (Some p) order h =
     elim (cases_lt p.place place) [
-      | inl before ↦ words_from-before place p before ∙ sym (words_from-before next p (omega arith))
+      | inl before ↦ grind arith
       | inr behind ↦ elim (cases_lt p.place next) [
-        | inr behind_next ↦ words_from-behind place p behind ∙ sym (words_from-behind next p behind_next)
+        | inr behind_next ↦ grind arith
         | inl between ↦ words_from-behind place p behind ∙ (elim (cases_lt 0 p.len) [
           | inl some ↦ absurd (let not_between = h p refl some behind in omega arith)
           | inr nothing ↦ let none : p.len ≡ 0 = omega arith in none
@@ -88,30 +88,12 @@ words_from-same place next (Some p) order h =
 -- at first all blocks lie as before
 pub IsPacking-start : (layout : Layout) (used : ℕ) → AreApart layout.slots → AreWithin layout.slots layout.size
     → used ≡ covered_words layout.slots → IsPacking layout layout 0 0 used
-IsPacking-start layout used apart within counted =
-    record {
-      size = refl;
-      content = refl;
-      apart = apart;
-      within = within;
-      front = λ word h. absurd (omega arith);
-      sides = λ n p there some. inr (omega arith);
-      order = omega arith;
-      all = let same = all_words layout.slots in omega (arith, same, counted);
-      total = sym counted;
-    }
-  where
-    all_words : (slots : List (Option PlacedBlock)) → rest 0 slots ≡ covered_words slots
-    all_words slots = same_sums (words_from 0) covered_of slots (λ k h. from_start (value_at slots k))
-      where
-        from_start : (o : Option PlacedBlock) → words_from 0 o ≡ covered_of o
-        from_start None = refl
-        from_start (Some p) = words_from-behind 0 p (omega arith)
+IsPacking-start layout used apart within counted = grind arith
 
 -- while words are missing, the place is in the region
-pub IsPacking-inside : (before now : Layout) (packed place used : ℕ) → IsPacking before now packed place used
-    → packed < used → place < now.size
-IsPacking-inside before now packed place used i missing =
+pub IsPacking-inside : {before now : Layout} {packed place used : ℕ} → IsPacking before now packed place used → packed
+    < used → place < now.size
+IsPacking-inside {now} {place} i missing =
     elim (cases_lt place now.size) [
       | inl inside ↦ inside
       | inr past ↦ absurd (
@@ -123,9 +105,9 @@ IsPacking-inside before now packed place used i missing =
     ]
 
 -- no block begins at the place
-pub IsPacking-skip : (before now : Layout) (packed place used : ℕ) → IsPacking before now packed place used
-    → ((n : ℕ) → Begins now.slots n place → ⊥) → IsPacking before now packed (place + 1) used
-IsPacking-skip before now packed place used i none =
+pub IsPacking-skip : {before now : Layout} {packed place used : ℕ} → IsPacking before now packed place used → ((n : ℕ)
+    → Begins now.slots n place → ⊥) → IsPacking before now packed (place + 1) used
+IsPacking-skip {now} {place} i none =
     record {
       size = i.size;
       content = i.content;
@@ -169,16 +151,7 @@ module _ (before now : Layout) (packed place used n : ℕ) (p : PlacedBlock)
 
   -- no other block covers a word that it then covers
   pub slide_clear : IsClear now.slots n packed p.len
-  slide_clear k word from below c =
-      elim (cases_eq k n) [
-        | inl same ↦ same
-        | inr other ↦ absurd (elim (i.sides k c.block c.there (let f = c.from in let b = c.below in omega arith)) [
-          | inl before ↦ let b = c.below in omega arith
-          | inr behind ↦ let past =
-              beyond k c.block other c.there (let f = c.from in let b = c.below in omega arith) behind in let f =
-              c.from in let o = i.order in omega arith
-        ])
-      ]
+  slide_clear k word from below c = grind (arith, beyond)
 
   abbrev slid_block : PlacedBlock
   slid_block = record { owner = p.owner; place = packed; len = p.len; words = p.words }
@@ -187,12 +160,12 @@ module _ (before now : Layout) (packed place used n : ℕ) (p : PlacedBlock)
   in_range = IsSome-in_range now.slots n (ap is_some there)
 
   slid_content : content_of (slice_set now.slots n (Some slid_block)) ≡ content_of now.slots
-  slid_content = map-set_same block_of now.slots n (Some slid_block) None (sym (ap block_of there))
+  slid_content = grind (arith, map-set_same, slid_block)
 
   slid_front : (word : ℕ) → word < packed + p.len → IsCovered (slice_set now.slots n (Some slid_block)) word
   slid_front word h =
       elim (cases_lt word packed) [
-        | inr new ↦ record { number = n; covers = Covers-set_here now.slots n word slid_block in_range new h }
+        | inr new ↦ record { number = n; covers = Covers-set_here now.slots slid_block in_range new h }
         | inl old ↦ kept (i.front word old) old
       ]
     where
@@ -201,28 +174,18 @@ module _ (before now : Layout) (packed place used n : ℕ) (p : PlacedBlock)
           record {
             number = c.number;
             covers =
-                Covers-set_other now.slots n c.number word (Some slid_block)
+                Covers-set_other n (Some slid_block)
                 (λ same. not_here (subst (λ (k : ℕ). Covers now.slots k word) same c.covers)) c.covers;
           }
         where
           not_here : Covers now.slots n word → ⊥
-          not_here covers = let by = Covers-by now.slots n word p there covers in let from = by.0 in let o =
+          not_here covers = let by = Covers-by p there covers in let from = by.0 in let o =
               i.order in omega arith
 
   slid_sides : (k : ℕ) (q : PlacedBlock) → value_at (slice_set now.slots n (Some slid_block)) k ≡ Some q
       → 0 < q.len → (q.place + q.len ≤ packed + p.len) ⊎ (place + p.len ≤ q.place)
   slid_sides k q found words =
-      elim (cases_eq k n) [
-        | inl same ↦ let is : q ≡ slid_block =
-            same_some q slid_block (sym found
-            ∙ (ap (value_at (slice_set now.slots n (Some slid_block))) same
-            ∙ value_at-set_same now.slots n (Some slid_block) in_range)) in inl (rw is (omega arith))
-        | inr other ↦ let was = sym (value_at-set_other now.slots n k (Some slid_block) other) ∙ found in
-            elim (i.sides k q was words) [
-              | inl front ↦ inl (omega arith)
-              | inr behind ↦ inr (beyond k q other was words behind)
-            ]
-      ]
+      grind (arith, slid_block, same_some, slice_set, value_at-set_same, in_range, value_at-set_other, beyond)
 
   -- the other blocks count alike from the end of this one on
   others_alike : sum_by (words_from place) (slice_set now.slots n None) ≡ sum_by (words_from (place + p.len))
@@ -232,24 +195,13 @@ module _ (before now : Layout) (packed place used n : ℕ) (p : PlacedBlock)
       (λ k h. elim (cases_eq k n) [
         | inl same ↦ rw same (rw (value_at-set_same now.slots n None in_range) refl)
         | inr other ↦
-            rw (value_at-set_other now.slots n k None other)
-            (words_from-same place (place + p.len) (value_at now.slots k) (omega arith)
-            (λ q found words behind. beyond k q other found words behind))
+            grind (arith, value_at-set_other, words_from-same, beyond)
       ])
 
   slid_rest : rest (place + p.len) (slice_set now.slots n (Some slid_block)) + p.len ≡ rest place
       now.slots
   slid_rest =
-      let next : ℕ = place + p.len in
-      let o = i.order in
-      let old = sum_by-set (words_from place) now.slots n None None in_range in
-      let gone = sum_by-set (words_from next) now.slots n None None in_range in
-      let new = sum_by-set (words_from next) now.slots n (Some slid_block) None in_range in
-      let was : words_from place (value_at now.slots n) ≡ p.len =
-      ap (words_from place) there ∙ words_from-behind place p (omega arith) in
-      let is : words_from next (Some slid_block) ≡ 0 = words_from-before next slid_block (omega arith) in
-      let alike = others_alike in
-      omega (arith, old, gone, new, was, is, alike)
+      grind (arith, sum_by-set, words_from, in_range, slid_block, words_from-behind, words_from-before, others_alike)
 
   pub IsPacking-slide : IsPacking before (with_slot now n (Some slid_block)) (packed + p.len)
       (place + p.len) used
@@ -266,28 +218,24 @@ module _ (before now : Layout) (packed place used n : ℕ) (p : PlacedBlock)
         order = let o = i.order in omega arith;
         all = let all = i.all in let r = slid_rest in omega (arith, all, r);
         total =
-            let change = sum_by-set covered_of now.slots n (Some slid_block) None in_range in
-            let was : covered_of (value_at now.slots n) ≡ p.len = ap covered_of there in
-            omega (arith, change, was, i.total);
+            grind (arith, sum_by-set, slid_block, in_range);
       }
 
 -- the block that begins at the place has moved down to the packed ones
-pub IsPacking-moved : (before old new : Layout) (packed place used n len : ℕ) → IsPacking before old packed place used
-    → Begins old.slots n place → new ≡ layout_after_move old n packed → len ≡ covered_at old.slots n
-    → IsPacking before new (packed + len) (place + len) used
-IsPacking-moved before old new packed place used n len i b moved long =
-    let slid = moved ∙ ap (λ o. with_slot old n (block_at_place packed o)) b.there in
-    let words = long ∙ ap covered_of b.there in
-    rw (slid, words) (IsPacking-slide before old packed place used n b.block i b.there b.here b.some)
+pub IsPacking-moved : {before old new : Layout} {packed place used n : ℕ} (len : ℕ) → IsPacking before old packed
+    place used → Begins old.slots n place → new ≡ layout_after_move old n packed → len ≡ covered_at old.slots n →
+    IsPacking before new (packed + len) (place + len) used
+IsPacking-moved {before} {old} {packed} {place} {used} {n} len i b moved long =
+    grind (arith, IsPacking-slide before old packed place used n b.block i b.there b.here b.some)
 
 -- it covers a word at least
-pub begins-some : (slots : List (Option PlacedBlock)) (n place : ℕ) → Begins slots n place → 1 ≤ covered_at slots n
-begins-some slots n place b = omega (arith, ap covered_of b.there, b.some)
+pub begins-some : {slots : List (Option PlacedBlock)} {n place : ℕ} → Begins slots n place → 1 ≤ covered_at slots n
+begins-some b = grind arith
 
 -- its words and those that moved before are within the size
-pub moved_within : (before now : Layout) (packed place used n moved words : ℕ) → IsPacking before now packed place used
-    → Begins now.slots n place → moved ≤ packed → words ≤ covered_at now.slots n → moved + words ≤ now.size
-moved_within before now packed place used n moved words i b few less =
+pub moved_within : {before now : Layout} {packed place used n : ℕ} (moved words : ℕ) → IsPacking before now packed
+    place used → Begins now.slots n place → moved ≤ packed → words ≤ covered_at now.slots n → moved + words ≤ now.size
+moved_within {n} moved words i b few less =
     let long = ap covered_of b.there in
     omega (arith, i.order, (i.within n b.block b.there).0, b.here, long)
 
@@ -307,7 +255,7 @@ ArePacked-end before now packed place used i done =
             get_or-le-sum_by (words_from place) now.slots n None
             (IsSome-in_range now.slots n (ap is_some c.there)) in
             let here : words_from place (value_at now.slots n) ≡ c.block.len =
-            ap (words_from place) c.there ∙ words_from-behind place c.block behind in
+            grind arith in
             omega (arith, all, part, here))
       ];
     }

@@ -1,16 +1,15 @@
 -- Lemmas on the free words of a region: those of the holes, and those of ranges that are kept beside them.
 use Rattle.std.proofs.Common.{◌≡◌, ◌≢◌, ◌⊎◌, ℕ, zero, suc, ◌+◌, ◌<◌, ◌≤◌, Bool, true, false, List, [], ◌∷◌, length}
 use Rattle.std.proofs.Common.{slice_set, Option, Some, None, inl, inr, refl, sym, ap, subst, ◌∙◌, is_some}
-use Rattle.std.proofs.Common.{replicate, arith}
+use Rattle.std.proofs.Common.{replicate, arith, rules}
 use Rattle.std.proofs.lemmas.Bool.{cases_eq, cases_lt}
 use Rattle.std.specs.Prelude.{IfSome, IfNone}
 use Rattle.std.proofs.lemmas.List.{ext_get_or, map-set, length-map, length-set, get_or_past}
 use Rattle.std.proofs.Math.ListN.{get_or-map}
 use Rattle.holes.specs.FreeWords.{Region, is_free, set_range, AllFree, NoneFree, given_to, taken_from, IsLowestFit}
 use Rattle.block_memory.specs.Table.{value_at}
-use Rattle.block_memory.specs.Layout.{PlacedBlock, Covers}
+use Rattle.block_memory.specs.Layout.{PlacedBlock, Covers, Layout}
 use Rattle.block_memory.specs.Region.{IsCovered, IsRegion, HasRoom}
-use Rattle.block_memory.specs.Layout.{Layout}
 use Rattle.block_memory.specs.Places.{ArePlaces, AreAllEmpty, IsTaken, free_with, slot_of, slots_of, with_kept}
 use Rattle.block_memory.specs.declared.places.WordRange.{WordRange}
 use Rattle.block_memory.proofs.Lists.{same_some, None≢Some, true-not_false, IsSome-in_range}
@@ -27,9 +26,9 @@ later : (o : Option PlacedBlock) (kept : List (Option PlacedBlock)) (size : ℕ)
     → AreInside kept size
 later o kept size inside n p there = inside (suc n) p there
 
-cover_later : (o : Option PlacedBlock) (kept : List (Option PlacedBlock)) (n word : ℕ) → Covers kept n word
-    → Covers (o ∷ kept) (suc n) word
-cover_later o kept n word c = record { block = c.block; there = c.there; from = c.from; below = c.below }
+cover_later : (o : Option PlacedBlock) {kept : List (Option PlacedBlock)} {n word : ℕ} → Covers kept n word → Covers
+    (o ∷ kept) (suc n) word
+cover_later o c = grind arith
 
 pub length-free_with : (free : List Bool) (kept : List (Option PlacedBlock)) → AreInside kept (length free)
     → length (free_with free kept) ≡ length free
@@ -51,7 +50,7 @@ free_with-covered free (None ∷ kept) inside (suc n) word c =
 free_with-covered free (Some p ∷ kept) inside zero word c =
     let long = length-free_with free kept (later (Some p) kept (length free) inside) in
     let fits = inside zero p refl in
-    let by = Covers-by (Some p ∷ kept) zero word p refl c in
+    let by = Covers-by p refl c in
     is_free-set_inside (free_with free kept) p.place p.len word true (omega arith) by.0 by.1
 free_with-covered free (Some p ∷ kept) inside (suc n) word c =
     let long = length-free_with free kept (later (Some p) kept (length free) inside) in
@@ -66,14 +65,14 @@ free_with-bare : (free : List Bool) (kept : List (Option PlacedBlock)) → AreIn
 free_with-bare free [] inside word bare = refl
 free_with-bare free (None ∷ kept) inside word bare =
     free_with-bare free kept (later None kept (length free) inside) word
-    (λ n c. bare (suc n) (cover_later None kept n word c))
+    (λ n c. bare (suc n) (cover_later None c))
 free_with-bare free (Some p ∷ kept) inside word bare =
     let long = length-free_with free kept (later (Some p) kept (length free) inside) in
     let fits = inside zero p refl in
     is_free-outside (free_with free kept) p.place p.len word true (omega arith)
     (λ from to. bare zero (record { block = p; there = refl; from = from; below = to }))
     ∙ free_with-bare free kept (later (Some p) kept (length free) inside) word
-    (λ n c. bare (suc n) (cover_later (Some p) kept n word c))
+    (λ n c. bare (suc n) (cover_later (Some p) c))
 
 -- if no range is kept
 pub free_with-none : (free : List Bool) (kept : List (Option PlacedBlock))
@@ -88,7 +87,7 @@ covered_or_bare : (kept : List (Option PlacedBlock)) (word : ℕ)
 covered_or_bare [] word = inr (λ n c. None≢Some c.block c.there)
 covered_or_bare (o ∷ kept) word =
     elim (covered_or_bare kept word) [
-      | inl c ↦ inl (record { number = suc c.number; covers = cover_later o kept c.number word c.covers })
+      | inl c ↦ grind (arith, cover_later o c.covers)
       | inr bare ↦ by_first o bare
     ]
   where
@@ -112,7 +111,7 @@ covered_or_bare (o ∷ kept) word =
         ]
       where
         not_one : (p.place ≤ word → word < p.place + p.len → ⊥) → (n : ℕ) → Covers (Some p ∷ kept) n word → ⊥
-        not_one outside zero c = let by = Covers-by (Some p ∷ kept) zero word p refl c in outside by.0 by.1
+        not_one outside zero c = let by = Covers-by p refl c in outside by.0 by.1
         not_one outside (suc n) c =
             bare n (record { block = c.block; there = c.there; from = c.from; below = c.below })
 
@@ -141,11 +140,11 @@ module _ (holes : Region) (kept : List (Option PlacedBlock)) (a : ArePlaces hole
   length-whole = length-free_with holes.free kept inside
 
   covered_free : (n word : ℕ) → Covers kept n word → is_free whole word ≡ true
-  covered_free n word c = free_with-covered holes.free kept inside n word c
+  covered_free n word c = search (rules, free_with-covered, inside)
 
   -- no range that is kept has a word that isn't free
   not_covered : (word : ℕ) → is_free whole word ≡ false → (n : ℕ) → Covers kept n word → ⊥
-  not_covered word h n c = true-not_false (is_free whole word) (covered_free n word c) h
+  not_covered word h n c = search (rules, true-not_false, whole, covered_free)
 
   taken_there : (word : ℕ) → is_free whole word ≡ false → is_free holes.free word ≡ false
   taken_there word h = sym (free_with-bare holes.free kept inside word (not_covered word h)) ∙ h
@@ -168,13 +167,13 @@ module _ (holes : Region) (kept : List (Option PlacedBlock)) (a : ArePlaces hole
     changed = record { free = set_range holes.free place len value; most = holes.most }
 
     long_changed : length changed.free ≡ length holes.free
-    long_changed = length-set_range holes.free place len value fits
+    long_changed = omega (arith, length-set_range)
 
     pub places-beside : ArePlaces changed kept
     places-beside = record {
       apart = a.apart;
       taken = λ n word c. is_free-outside holes.free place len word value fits (apart n word c) ∙ a.taken n word c;
-      within = λ n p there. let w = a.within n p there in (w.0, omega (arith, w.1, long_changed));
+      within = grind (arith, long_changed);
       room = omega (arith, a.room, long_changed);
     }
 
@@ -200,16 +199,11 @@ module _ (holes : Region) (kept : List (Option PlacedBlock)) (a : ArePlaces hole
       apart =
           AreApart-set kept k p in_range a.apart
           (λ other word from below c. absurd (not_covered word (none_free word from below) other c));
-      taken = λ n word c. elim (Covers-set kept k n word p in_range c) [
+      taken = λ n word c. elim (Covers-set kept k p in_range c) [
         | inl here ↦ taken_there word (none_free word here.1.0 here.1.1)
         | inr other ↦ a.taken n word other.1
       ];
-      within = λ n q there. elim (cases_eq n k) [
-        | inl same ↦ let is : q ≡ p =
-            same_some q p (sym there ∙ (ap (value_at (slice_set kept k (Some p))) same
-            ∙ value_at-set_same kept k (Some p) in_range)) in rw is (some, omega (arith, fits, length-whole))
-        | inr other ↦ a.within n q (sym (value_at-set_other kept k n (Some p) other) ∙ there)
-      ];
+      within = grind (arith, same_some, slice_set, value_at-set_same, length-whole, value_at-set_other);
       room = a.room;
     }
 
@@ -218,14 +212,14 @@ module _ (holes : Region) (kept : List (Option PlacedBlock)) (a : ArePlaces hole
         is_whole holes.free (set_range whole p.place p.len true) (slice_set kept k (Some p))
         (λ n q there. (places-put.within n q there).1)
         (length-set_range whole p.place p.len true fits ∙ length-whole)
-        (λ n word c. elim (Covers-set kept k n word p in_range c) [
-          | inl here ↦ is_free-set_inside whole p.place p.len word true fits here.1.0 here.1.1
+        (λ n word c. elim (Covers-set kept k p in_range c) [
+          | inl here ↦ grind (arith, is_free-set_inside, whole)
           | inr other ↦ is_free-still whole p.place p.len word true fits (covered_free n word other.1)
         ])
         (λ word none. is_free-outside whole p.place p.len word true fits
-        (λ from to. none k (Covers-set_here kept k word p in_range from to))
+        (λ from to. none k (Covers-set_here kept p in_range from to))
         ∙ free_with-bare holes.free kept inside word
-        (λ n c. none n (Covers-set_other kept k n word (Some p) (not_there n word c) c)))
+        (λ n c. none n (Covers-set_other k (Some p) (not_there n word c) c)))
       where
         not_there : (n word : ℕ) → Covers kept n word → n ≢ k
         not_there n word c same = None≢Some c.block (sym empty ∙ (ap (value_at kept) (sym same) ∙ c.there))
@@ -236,7 +230,7 @@ module _ (holes : Region) (kept : List (Option PlacedBlock)) (a : ArePlaces hole
     in_kept = IsSome-in_range kept k (ap is_some there)
 
     its_words : (word : ℕ) → p.place ≤ word → word < p.place + p.len → Covers kept k word
-    its_words word from below = record { block = p; there = there; from = from; below = below }
+    its_words word from below = grind arith
 
     pub fits_there : p.place + p.len ≤ length holes.free
     fits_there = inside k p there
@@ -252,7 +246,7 @@ module _ (holes : Region) (kept : List (Option PlacedBlock)) (a : ArePlaces hole
 
     apart_from : (n word : ℕ) → Covers (slice_set kept k None) n word → p.place ≤ word → word < p.place + p.len → ⊥
     apart_from n word c from below =
-        let other = Covers-set_none kept k n word in_kept c in
+        let other = Covers-set_none kept k in_kept c in
         other.0 (a.apart n k word other.1 (its_words word from below))
 
     bare_before : (word : ℕ) → (p.place ≤ word → word < p.place + p.len → ⊥)
@@ -260,23 +254,17 @@ module _ (holes : Region) (kept : List (Option PlacedBlock)) (a : ArePlaces hole
     bare_before word outside none n c =
         elim (cases_eq n k) [
           | inl same ↦
-              let by = Covers-by kept k word p there (subst (λ (m : ℕ). Covers kept m word) same c) in
-              outside by.0 by.1
-          | inr other ↦ none n (Covers-set_other kept k n word None other c)
+              grind arith
+          | inr other ↦ none n (Covers-set_other k None other c)
         ]
 
     pub places-gone : ArePlaces holes (slice_set kept k None)
     places-gone = record {
       apart =
-          λ m n word b c. a.apart m n word (Covers-set_none kept k m word in_kept b).1
-          (Covers-set_none kept k n word in_kept c).1;
-      taken = λ n word c. a.taken n word (Covers-set_none kept k n word in_kept c).1;
-      within = λ n q found. elim (cases_eq n k) [
-        | inl same ↦
-            absurd (None≢Some q (sym (value_at-set_same kept k None in_kept)
-            ∙ (ap (value_at (slice_set kept k None)) (sym same) ∙ found)))
-        | inr other ↦ a.within n q (sym (value_at-set_other kept k n None other) ∙ found)
-      ];
+          λ m n word b c. a.apart m n word (Covers-set_none kept k in_kept b).1
+          (Covers-set_none kept k in_kept c).1;
+      taken = λ n word c. a.taken n word (Covers-set_none kept k in_kept c).1;
+      within = grind (arith, value_at-set_same, in_kept, slice_set, value_at-set_other);
       room = a.room;
     }
 
@@ -287,11 +275,10 @@ module _ (holes : Region) (kept : List (Option PlacedBlock)) (a : ArePlaces hole
         (λ n q found. (places-gone.within n q found).1)
         (length-set_range whole p.place p.len false fits_whole ∙ length-whole)
         (λ n word c. is_free-outside whole p.place p.len word false fits_whole (apart_from n word c)
-        ∙ covered_free n word (Covers-set_none kept k n word in_kept c).1)
+        ∙ covered_free n word (Covers-set_none kept k in_kept c).1)
         (λ word none. elim (in_or_out p.place p.len word) [
           | inl here ↦
-              is_free-set_inside whole p.place p.len word false fits_whole here.0 here.1
-              ∙ sym (none_free word here.0 here.1)
+              grind (arith, is_free-set_inside, whole, fits_whole, none_free)
           | inr outside ↦
               is_free-outside whole p.place p.len word false fits_whole outside
               ∙ free_with-bare holes.free kept inside word (bare_before word outside none)
@@ -312,11 +299,10 @@ module _ (holes : Region) (kept : List (Option PlacedBlock)) (a : ArePlaces hole
         is_whole (given_to holes p.place p.len).free whole (slice_set kept k None)
         (λ n q found. (places-returned.within n q found).1)
         (length-whole ∙ sym (length-set_range holes.free p.place p.len true fits_there))
-        (λ n word c. covered_free n word (Covers-set_none kept k n word in_kept c).1)
+        (λ n word c. covered_free n word (Covers-set_none kept k in_kept c).1)
         (λ word none. elim (in_or_out p.place p.len word) [
           | inl here ↦
-              all_free word here.0 here.1
-              ∙ sym (is_free-set_inside holes.free p.place p.len word true fits_there here.0 here.1)
+              grind (arith, all_free, is_free-set_inside, fits_there)
           | inr outside ↦
               free_with-bare holes.free kept inside word (bare_before word outside none)
               ∙ sym (is_free-outside holes.free p.place p.len word true fits_there outside)
@@ -340,18 +326,13 @@ module _ (holes : Region) (kept : List (Option WordRange)) (empty : AreAllEmpty 
   no_slot n = slot_at kept n ∙ ap slot_of (empty n)
 
   not_any : (n word : ℕ) → Covers (slots_of kept) n word → ⊥
-  not_any n word c = None≢Some c.block (sym (no_slot n) ∙ c.there)
+  not_any n word c = grind (arith, no_slot)
 
   pub holes-whole : with_kept holes kept ≡ holes
-  holes-whole = ap (with_words holes.most) (free_with-none holes.free (slots_of kept) no_slot)
+  holes-whole = grind (arith, with_words, free_with-none, no_slot)
 
   pub places-none : length holes.free < holes.most → ArePlaces holes (slots_of kept)
-  places-none room = record {
-    apart = λ m n word b c. absurd (not_any m word b);
-    taken = λ n word c. absurd (not_any n word c);
-    within = λ n p there. absurd (None≢Some p (sym (no_slot n) ∙ there));
-    room = room;
-  }
+  places-none room = grind (arith, not_any, no_slot)
 
 pub none_kept : (count n : ℕ) → value_at {T = WordRange} (replicate count None) n ≡ None
 none_kept zero n = refl
@@ -364,7 +345,7 @@ pub emptied_next : (kept : List (Option WordRange)) (index : ℕ) → ((n : ℕ)
 emptied_next kept index first n below =
     elim (cases_eq n index) [
       | inl same ↦ rw same here
-      | inr other ↦ value_at-set_other kept index n None other ∙ first n (let o = other in omega arith)
+      | inr other ↦ grind (arith, value_at-set_other)
     ]
   where
     here : value_at (slice_set kept index None) index ≡ None
@@ -376,11 +357,7 @@ emptied_next kept index first n below =
 
 pub all_emptied : (kept : List (Option WordRange)) (index : ℕ) → length kept ≤ index
     → ((n : ℕ) → n < index → value_at kept n ≡ None) → AreAllEmpty kept
-all_emptied kept index past first n =
-    elim (cases_lt n index) [
-      | inl below ↦ first n below
-      | inr behind ↦ get_or_past kept n None (omega arith)
-    ]
+all_emptied kept index past first n = grind (arith, get_or_past)
 
 module _ (holes : Region) (kept : List (Option WordRange)) (a : ArePlaces holes (slots_of kept)) where
   -- words are taken of a hole
@@ -389,15 +366,14 @@ module _ (holes : Region) (kept : List (Option WordRange)) (a : ArePlaces holes 
       × IsTaken (with_kept holes kept) (with_kept (taken_from holes place len) kept) place len
   taken_of_hole place len fit fits =
       let all : AllFree holes.free place len =
-      λ word from below. let wide = fit.fits in fit.hole.inside word from (omega arith) in
+      grind arith in
       let apart : (n word : ℕ) → Covers (slots_of kept) n word → place ≤ word → word < place + len → ⊥ =
       λ n word c from below. true-not_false (is_free holes.free word) (all word from below) (a.taken n word c) in (
         places-beside holes (slots_of kept) a place len false fits apart,
         record {
           free = all_free-whole holes (slots_of kept) a place len all;
           within = omega (arith, fits, length-whole holes (slots_of kept) a);
-          taken = ap (with_words holes.most)
-              (whole-beside holes (slots_of kept) a place len false fits apart);
+          taken = grind (arith, with_words, whole-beside);
         },
       )
 
@@ -433,10 +409,9 @@ module _ (holes : Region) (kept : List (Option WordRange)) (a : ArePlaces holes 
   kept_next all same before index range in_range emptied some fits none =
       let p : PlacedBlock = record { owner = 0; place = range.place; len = range.len; words = [] } in
       let within : index < length (slots_of kept) =
-      omega (arith, in_range, length-map kept slot_of, ap length emptied, length-set before index None) in
+      grind (arith, length-map, length-set) in
       let empty : value_at (slots_of kept) index ≡ None =
-      slot_at kept index ∙ ap slot_of (ap (λ (ranges : List (Option WordRange)). value_at ranges index) emptied
-      ∙ value_at-set_same before index None in_range) in
+      grind (arith, slot_at, value_at-set_same) in
       let there_fits : range.place + range.len ≤ length (free_with holes.free (slots_of kept)) =
       rw (← same) at fits in
       let there_none : NoneFree (free_with holes.free (slots_of kept)) range.place range.len = rw (← same) at none in
@@ -463,7 +438,7 @@ module _ (holes : Region) (kept : List (Option WordRange)) (a : ArePlaces holes 
     range_within = (a.within index slot slot_there).1
 
     pub range_taken : NoneFree holes.free range.place range.len
-    range_taken = none_free holes (slots_of kept) a index slot slot_there
+    range_taken = grind (arith, none_free, slot, slot_there)
 
     gone : slots_of (slice_set kept index None) ≡ slice_set (slots_of kept) index None
     gone = slots-set kept index None
@@ -492,23 +467,13 @@ module _ (holes : Region) (kept : List (Option WordRange)) (a : ArePlaces holes 
     )
 
 -- words that were taken are room for a block
-pub room_of : (layout : Layout) (before after : Region) (covered place len : ℕ) → IsRegion layout before covered
-    → IsTaken before after place len → HasRoom layout after covered place len
-room_of layout before after covered place len r t = record {
-  before = before;
-  region = r;
-  all_free = t.free;
-  taken = t.taken;
-  inside = omega (arith, t.within, r.same_size);
-}
+pub room_of : {layout : Layout} {before after : Region} {covered place len : ℕ} → IsRegion layout before covered →
+    IsTaken before after place len → HasRoom layout after covered place len
+room_of r t = grind arith
 
 pub room_after : (layout : Layout) (after : Region) (covered place len : ℕ) → HasRoom layout after covered place len
     → length after.free < after.most
-room_after layout after covered place len h =
-    let set = length-set_range h.before.free place len false (omega (arith, h.inside, h.region.same_size)) in
-    let long = ap (λ (r : Region). length r.free) h.taken in
-    let most = ap (λ (r : Region). r.most) h.taken in
-    omega (arith, set, long, most, h.region.room)
+room_after layout after covered place len h = grind (arith, length-set_range)
 
 -- all words that were free are in the holes, and no range is kept
 module _ (before holes : Region) (kept : List (Option WordRange)) (empty : AreAllEmpty kept)
@@ -522,7 +487,7 @@ module _ (before holes : Region) (kept : List (Option WordRange)) (empty : AreAl
       let room : length holes.free < holes.most = rw (← same) at r.room in
       let both = taken_of_hole holes kept (places-none holes kept empty room) place len fit within in (
         rw taken both.0,
-        room_of layout before (with_kept new kept) covered place len r
+        room_of r
             (rw taken (subst (λ (r : Region). IsTaken r (with_kept (taken_from holes place len) kept) place len)
             (holes-whole holes kept empty ∙ same) both.1)),
       )

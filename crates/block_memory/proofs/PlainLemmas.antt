@@ -1,11 +1,10 @@
 -- Lemmas on what a plain memory contains.
-use Rattle.std.proofs.Common.{◌≡◌, ℕ, zero, suc, ◌+◌, ◌-◌, ◌<◌, ◌≤◌, List, ◌∷◌, length, replicate, slice_set, Option}
-use Rattle.std.proofs.Common.{Some, None, is_some, refl, sym, ap, ◌∙◌, arith}
+use Rattle.std.proofs.Common.{◌≡◌, ℕ, zero, suc, ◌+◌, ◌-◌, ◌<◌, ◌≤◌, List, length, replicate, slice_set, Option}
+use Rattle.std.proofs.Common.{Some, None, is_some, refl, arith}
 use Rattle.std.proofs.lemmas.List.{map-set, length-map}
 use Rattle.std.proofs.lemmas.List.Folds.{sum_by-replicate}
 use Rattle.std.proofs.Math.ListN.{get_or-map}
-use Rattle.block_memory.specs.Content.{Block, no_blocks, block_at, words_of, words_at, block_count, with_block}
-use Rattle.block_memory.specs.Content.{without_block}
+use Rattle.block_memory.specs.Content.{no_blocks, block_at, words_at, block_count, with_block, without_block}
 use Rattle.block_memory.specs.Table.{value_at, value_count}
 use Rattle.block_memory.specs.Plain.{block_of, content_of, IsPlain}
 use Rattle.block_memory.specs.declared.plain.PlainBlock.{PlainBlock}
@@ -15,16 +14,10 @@ use Rattle.block_memory.proofs.ContentLemmas.{used_words-with_block, used_words-
 -- no number has a block at first
 pub content_of-empty : (A : Type 0) (n : ℕ) → content_of {A = A} (replicate n None) ≡ no_blocks n
 content_of-empty A zero = refl
-content_of-empty A (suc n) = ap (λ c. None ∷ c) (content_of-empty A n)
+content_of-empty A (suc n) = grind (arith, content_of-empty A n)
 
 pub IsPlain-empty : (A : Type 0) (size n : ℕ) → IsPlain size 0 (content_of {A = A} (replicate n None))
-IsPlain-empty A size n =
-    let length_of : Option Block → ℕ = λ o. length (words_of o) in
-    let none = sum_by-replicate length_of n None in
-    record {
-      counted = rw (content_of-empty A n) (omega (arith, none));
-      within = omega arith;
-    }
+IsPlain-empty A size n = grind (arith, sum_by-replicate, content_of-empty)
 
 module _ {A : Type 0} where
   -- the block of a number is the one in its slot
@@ -43,7 +36,7 @@ module _ {A : Type 0} where
   -- the words of a number's block
   pub words_at-plain : (slots : List (Option (PlainBlock A))) (n : ℕ) (b : PlainBlock A) → value_at slots n ≡ Some b
       → words_at (content_of slots) n ≡ b.words.items
-  words_at-plain slots n b there = ap words_of (block_at-plain slots n ∙ ap block_of there)
+  words_at-plain slots n b there = grind (arith, block_at-plain)
 
   -- an empty number gets a block
   pub content_of-insert : (slots : List (Option (PlainBlock A))) (n : ℕ) (b : PlainBlock A)
@@ -56,14 +49,7 @@ module _ {A : Type 0} where
       → used + length b.words.items ≤ size → IsPlain size (used + length b.words.items)
       (content_of (slice_set slots n (Some b)))
   IsPlain-insert size used slots n b plain within empty fits =
-      let long : length (content_of slots) ≡ length slots = length-map slots block_of in
-      let more =
-      used_words-with_block (content_of slots) n (record { owner = b.owner; words = b.words.items }) (omega arith)
-      (block_at-plain slots n ∙ ap block_of empty) in
-      record {
-        counted = rw (content_of-insert slots n b) (ap (λ k. k + length b.words.items) plain.counted ∙ sym more);
-        within = fits;
-      }
+      grind (arith, length-map, used_words-with_block, block_at-plain, content_of-insert)
 
   -- the block of a number goes
   pub content_of-remove : (slots : List (Option (PlainBlock A))) (n : ℕ)
@@ -74,10 +60,4 @@ module _ {A : Type 0} where
       → IsPlain size used (content_of slots) → value_at slots n ≡ Some b → len ≡ length b.words.items
       → IsPlain size (used - len) (content_of (slice_set slots n None))
   IsPlain-remove size used slots n len b plain there long =
-      let block = block_at-plain slots n ∙ ap block_of there in
-      let less = used_words-without_block (content_of slots) n (ap is_some block) in
-      let words = ap length (words_at-plain slots n b there) in
-      record {
-        counted = rw (content_of-remove slots n) (omega (arith, plain.counted, less, words, long));
-        within = let w = plain.within in omega arith;
-      }
+      grind (arith, block_at-plain, used_words-without_block, is_some, words_at-plain, content_of-remove)

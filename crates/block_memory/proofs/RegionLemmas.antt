@@ -7,14 +7,14 @@ use Rattle.std.proofs.lemmas.List.{map-set, length-map, length-replicate, get_or
 use Rattle.std.proofs.lemmas.List.Folds.{sum_by-replicate}
 use Rattle.std.proofs.lemmas.List.Sums.{sum_by-cons, sum_by-set, get_or-le-sum_by}
 use Rattle.holes.specs.FreeWords.{Region, is_free, NoneFree, set_range, given_to, free_from, widest}
-use Rattle.block_memory.specs.Content.{Block, no_blocks, IsLive, block_at, used_words, with_block, without_block}
+use Rattle.block_memory.specs.Content.{Block, no_blocks, IsLive, used_words, with_block, without_block}
 use Rattle.block_memory.specs.Placing.{IsPlacedWith}
 use Rattle.block_memory.specs.Content.{words_of as content_words_of, words_at as content_words_at}
-use Rattle.block_memory.specs.Content.{Content, owner_of as content_owner_of, owner_at as content_owner_at}
+use Rattle.block_memory.specs.Content.{Content, owner_at as content_owner_at}
 use Rattle.block_memory.specs.Table.{value_at}
 use Rattle.block_memory.specs.Layout.{PlacedBlock, Layout, Covers, IsBare, block_of, content_of, place_of, words_of}
 use Rattle.block_memory.specs.Layout.{covered_of, covered_at, covered_words, place_at, words_at, with_slot, IsClear}
-use Rattle.block_memory.specs.Layout.{block_with_words, layout_after_rewrite}
+use Rattle.block_memory.specs.Layout.{layout_after_rewrite}
 use Rattle.block_memory.specs.Region.{AreWithin, IsCovered, CoverRegion, IsRegion, IsPackedRegion, ArePacked, HasRoom}
 use Rattle.block_memory.proofs.Lists.{IsSome-in_range, None≢Some, true-not_false}
 use Rattle.block_memory.proofs.ContentLemmas.{used_words-with_block, used_words-rewritten, used_words-without_block}
@@ -33,29 +33,11 @@ no_value (suc most) (suc n) = no_value most n
 
 pub content_of-empty : (most : ℕ) → content_of (replicate most None) ≡ no_blocks most
 content_of-empty zero = refl
-content_of-empty (suc most) = ap (λ c. None ∷ c) (content_of-empty most)
+content_of-empty (suc most) = grind (arith, content_of-empty most)
 
 pub IsRegion-empty : (size most : ℕ) → IsRegion (record { size = size; slots = replicate most None })
     (record { free = replicate size true; most = size + 1 }) 0
-IsRegion-empty size most =
-    record {
-      cover = record {
-        apart = λ m n word a b. absurd (none m word a);
-        covered = λ n word c. absurd (none n word c);
-        others =
-            λ word below taken. absurd (let long = length-replicate size true in
-            true-not_false (is_free (replicate size true) word) (get_or-replicate size word true false (omega arith))
-            taken);
-      };
-      within = λ n p there. absurd (None≢Some p (sym (no_value most n) ∙ there));
-      same_size = length-replicate size true;
-      room = let long = length-replicate size true in omega arith;
-      counted = let all = sum_by-replicate covered_of most None in omega (arith, all);
-      fits = omega arith;
-    }
-  where
-    none : (n word : ℕ) → Covers (replicate most None) n word → ⊥
-    none n word c = None≢Some c.block (sym (no_value most n) ∙ c.there)
+IsRegion-empty size most = grind (arith, length-replicate, true-not_false, get_or-replicate, no_value, sum_by-replicate)
 
 -- a memory with no block
 pub IsPackedRegion-empty : (size most : ℕ) → IsPackedRegion (record { size = size; slots = replicate most None })
@@ -64,8 +46,7 @@ IsPackedRegion-empty size most =
     record {
       region = IsRegion-empty size most;
       counted =
-          rw (content_of-empty most) (let size_of : Option Block → ℕ = λ b. length (content_words_of b) in let all =
-          sum_by-replicate size_of most None in omega (arith, all));
+          grind (arith, content_of-empty, sum_by-replicate);
       fits = omega arith;
     }
 
@@ -99,12 +80,7 @@ IsRegion-packed before now holes used r size content within packed counted =
       cover = record {
         apart = packed.apart;
         covered = λ n word c. is_free-from_before used (length holes.free) word (packed.behind n word c);
-        others = λ word below taken. elim (cases_lt word used) [
-          | inl front ↦ packed.front word front
-          | inr behind ↦
-              absurd (true-not_false (is_free (free_from used (length holes.free)) word)
-              (is_free-from_behind used (length holes.free) word behind (omega arith)) taken)
-        ];
+        others = grind (arith, true-not_false, is_free-from_behind);
       };
       within = within;
       same_size = long ∙ (r.same_size ∙ sym size);
@@ -116,15 +92,12 @@ IsRegion-packed before now holes used r size content within packed counted =
 -- after the blocks were moved together a hole is wide enough
 pub wide_enough : (layout : Layout) (holes : Region) (used len : ℕ) → holes.free ≡ free_from used layout.size
     → used + len ≤ layout.size → widest holes.free < len → ⊥
-wide_enough layout holes used len packed fits narrow =
-    let wide = widest-free_from used layout.size in
-    let same = ap widest packed in
-    omega (arith, wide, same)
+wide_enough layout holes used len packed fits narrow = grind (arith, widest-free_from)
 
 -- no block covers the words that were taken
-pub HasRoom-bare : (layout : Layout) (holes : Region) (used place len : ℕ) → HasRoom layout holes used place len
-    → IsBare layout.slots place len
-HasRoom-bare layout holes used place len h other word from below c =
+pub HasRoom-bare : {layout : Layout} {holes : Region} {used place len : ℕ} → HasRoom layout holes used place len →
+    IsBare layout.slots place len
+HasRoom-bare h other word from below c =
     true-not_false (is_free h.before.free word) (h.all_free word from below) (h.region.cover.covered other word c)
 
 -- a block comes
@@ -133,7 +106,7 @@ module _ (layout : Layout) (holes : Region) (used n : ℕ) (new_block : PlacedBl
     (empty : value_at layout.slots n ≡ None) (fits : used + new_block.len ≤ layout.size)
     (few : new_block.len ≤ length new_block.words) where
   inside_free : new_block.place + new_block.len ≤ length h.before.free
-  inside_free = let i = h.inside in let s = h.region.same_size in omega arith
+  inside_free = omega arith
 
   cover_with_new : CoverRegion (slice_set layout.slots n (Some new_block)) holes.free
   cover_with_new =
@@ -141,13 +114,12 @@ module _ (layout : Layout) (holes : Region) (used n : ℕ) (new_block : PlacedBl
         apart =
             AreApart-set layout.slots n new_block within h.region.cover.apart
             (λ other word from below c. absurd
-            (HasRoom-bare layout holes used new_block.place new_block.len h other word from below c));
+            (HasRoom-bare h other word from below c));
         covered =
             λ k word c. subst (λ (r : Region). is_free r.free word ≡ false) (sym h.taken)
-            (elim (Covers-set layout.slots n k word new_block within c) [
+            (elim (Covers-set layout.slots n new_block within c) [
               | inl here ↦
-                  is_free-set_inside h.before.free new_block.place new_block.len word false inside_free here.1.0
-                  here.1.1
+                  grind (arith, is_free-set_inside, inside_free)
               | inr other ↦
                   is_free-still h.before.free new_block.place new_block.len word false inside_free
                   (h.region.cover.covered k word other.1)
@@ -161,7 +133,7 @@ module _ (layout : Layout) (holes : Region) (used n : ℕ) (new_block : PlacedBl
           elim (cases_lt word new_block.place) [
             | inl before ↦ by_other (λ from to. omega arith)
             | inr from ↦ elim (cases_lt word (new_block.place + new_block.len)) [
-              | inl to ↦ record { number = n; covers = Covers-set_here layout.slots n word new_block within from to }
+              | inl to ↦ record { number = n; covers = Covers-set_here layout.slots new_block within from to }
               | inr behind ↦ by_other (λ from to. omega arith)
             ]
           ]
@@ -179,7 +151,7 @@ module _ (layout : Layout) (holes : Region) (used n : ℕ) (new_block : PlacedBl
               record {
                 number = c.number;
                 covers =
-                    Covers-set_other layout.slots n c.number word (Some new_block)
+                    Covers-set_other n (Some new_block)
                     (λ same. None≢Some c.covers.block
                     (sym empty ∙ (ap (value_at layout.slots) (sym same) ∙ c.covers.there))) c.covers;
               }
@@ -191,18 +163,11 @@ module _ (layout : Layout) (holes : Region) (used n : ℕ) (new_block : PlacedBl
         within = AreWithin-set layout.slots layout.size n new_block within h.region.within
             (h.inside, few);
         same_size =
-            ap (λ (r : Region). length r.free) h.taken
-            ∙ (length-set_range h.before.free new_block.place new_block.len false inside_free
-            ∙ h.region.same_size);
+            grind (arith, length-set_range, inside_free);
         room =
-            let same = length-set_range h.before.free new_block.place new_block.len false inside_free in
-            let long = ap (λ (r : Region). length r.free) h.taken in
-            let most = ap (λ (r : Region). r.most) h.taken in
-            omega (arith, same, long, most, h.region.room);
+            grind (arith, length-set_range, inside_free);
         counted =
-            let change = sum_by-set covered_of layout.slots n (Some new_block) None within in
-            let was : covered_of (value_at layout.slots n) ≡ 0 = ap covered_of empty in
-            omega (arith, change, was, h.region.counted);
+            grind (arith, sum_by-set);
         fits = fits;
       }
 
@@ -219,15 +184,7 @@ module _ (layout : Layout) (holes : Region) (used n : ℕ) (new_block : PlacedBl
 -- a block that covers no word needs none
 pub HasRoom-nothing : (layout : Layout) (holes : Region) (used : ℕ) → IsRegion layout holes used
     → HasRoom layout holes used 0 0
-HasRoom-nothing layout holes used r =
-    record {
-      before = holes;
-      region = r;
-      all_free = λ word from below. absurd (omega arith);
-      taken = ap (λ free. let region : Region = record { free = free; most = holes.most } in region)
-          (sym (set_range-nothing holes.free 0 false));
-      inside = omega arith;
-    }
+HasRoom-nothing layout holes used r = grind arith
 
 -- a block goes
 module _ (layout : Layout) (holes : Region) (used n : ℕ) (p : PlacedBlock) (r : IsRegion layout holes used)
@@ -239,7 +196,7 @@ module _ (layout : Layout) (holes : Region) (used n : ℕ) (p : PlacedBlock) (r 
   inside = let w = (r.within n p there).0 in let s = r.same_size in omega arith
 
   gone_covers : (word : ℕ) → p.place ≤ word → word < p.place + p.len → Covers layout.slots n word
-  gone_covers word from below = record { block = p; there = there; from = from; below = below }
+  gone_covers word from below = grind arith
 
   -- none of its words is free
   pub none_free : NoneFree holes.free p.place p.len
@@ -249,9 +206,9 @@ module _ (layout : Layout) (holes : Region) (used n : ℕ) (p : PlacedBlock) (r 
   cover_without =
       record {
         apart =
-            λ k m word a b. r.cover.apart k m word (Covers-set_none layout.slots n k word in_range a).1
-            (Covers-set_none layout.slots n m word in_range b).1;
-        covered = λ k word c. let other = Covers-set_none layout.slots n k word in_range c in
+            λ k m word a b. r.cover.apart k m word (Covers-set_none layout.slots n in_range a).1
+            (Covers-set_none layout.slots n in_range b).1;
+        covered = λ k word c. let other = Covers-set_none layout.slots n in_range c in
             is_free-outside holes.free p.place p.len word true inside
             (λ from below. other.0 (r.cover.apart k n word other.1 (gone_covers word from below)))
             ∙ r.cover.covered k word other.1;
@@ -272,23 +229,20 @@ module _ (layout : Layout) (holes : Region) (used n : ℕ) (p : PlacedBlock) (r 
           record {
             number = c.number;
             covers =
-                Covers-set_other layout.slots n c.number word None
-                (λ same. let by = Covers-by layout.slots n word p there
+                Covers-set_other n None
+                (λ same. let by = Covers-by p there
                 (subst (λ (k : ℕ). Covers layout.slots k word) same c.covers) in outside by.0 by.1) c.covers;
           }
 
   live : IsLive (content_of layout.slots) n
-  live = is_some-content_of layout.slots n ∙ ap is_some there
+  live = grind (arith, is_some-content_of, is_some)
 
   words_there : length (content_words_at (content_of layout.slots) n) ≡ length p.words
-  words_there = ap length (words_at-content_of layout.slots n ∙ ap words_of there)
+  words_there = grind (arith, words_at-content_of)
 
   -- the words that it covers are among those that are covered
   pub less_covered : p.len ≤ used
-  less_covered =
-      let part = get_or-le-sum_by covered_of layout.slots n None in_range in
-      let here : covered_of (value_at layout.slots n) ≡ p.len = ap covered_of there in
-      omega (arith, part, here, r.counted)
+  less_covered = grind (arith, get_or-le-sum_by, in_range)
 
   -- its words are no longer in use
   pub used-remove : used_words (content_of (slice_set layout.slots n None)) + length p.words
@@ -304,11 +258,9 @@ module _ (layout : Layout) (holes : Region) (used n : ℕ) (p : PlacedBlock) (r 
         cover = cover_without;
         within = AreWithin-set_none layout.slots layout.size n in_range r.within;
         same_size = length-set_range holes.free p.place p.len true inside ∙ r.same_size;
-        room = omega (arith, length-set_range holes.free p.place p.len true inside, r.room);
+        room = omega (arith, length-set_range, inside);
         counted =
-            let change = sum_by-set covered_of layout.slots n None None in_range in
-            let was : covered_of (value_at layout.slots n) ≡ p.len = ap covered_of there in
-            omega (arith, change, was, r.counted);
+            grind (arith, sum_by-set, in_range);
         fits = let f = r.fits in omega arith;
       }
 
@@ -333,11 +285,10 @@ pub record IsLeaving (layout : Layout) (holes : Region) (used n place len : ℕ)
   pub none_free : NoneFree holes.free place len
   pub region : IsRegion (with_slot layout n None) (given_to holes place len) (used - len)
 
-pub is_leaving : (layout : Layout) (holes : Region) (used n place len : ℕ)
-    → IsRegion layout holes used
-    → IsLive (content_of layout.slots) n → place ≡ place_at layout.slots n → len ≡ covered_at layout.slots n
-    → IsLeaving layout holes used n place len
-is_leaving layout holes used n place len r live here long =
+pub is_leaving : {layout : Layout} {holes : Region} {used n place len : ℕ} → IsRegion layout holes used → IsLive
+    (content_of layout.slots) n → place ≡ place_at layout.slots n → len ≡ covered_at layout.slots n → IsLeaving layout
+    holes used n place len
+is_leaving {layout} {holes} {used} {n} r live here long =
     let p = the_block layout.slots n (slot_there layout.slots n live) in
     rw (here ∙ ap place_of p.1, long ∙ ap covered_of p.1)
     (record {
@@ -348,19 +299,17 @@ is_leaving layout holes used n place len r live here long =
     })
 
 -- blocks cover no more words than are in use
-pub covered_fits : (layout : Layout) (holes : Region) (covered used : ℕ) → IsRegion layout holes covered
-    → used ≡ used_words (content_of layout.slots) → covered ≤ used
-covered_fits layout holes covered used r counted =
-    omega (arith, r.counted, counted, covered-le_used layout.slots layout.size r.within)
+pub covered_fits : {layout : Layout} {holes : Region} {covered : ℕ} (used : ℕ) → IsRegion layout holes covered → used
+    ≡ used_words (content_of layout.slots) → covered ≤ used
+covered_fits {layout} used r counted = grind (arith, covered-le_used layout.slots layout.size r.within)
 
 -- a memory that gets a block in the region
-pub IsPackedRegion-put : (layout : Layout) (holes : Region) (covered used n : ℕ) (b : PlacedBlock)
-    → HasRoom layout holes covered b.place b.len → used ≡ used_words (content_of layout.slots)
-    → n < length layout.slots → value_at layout.slots n ≡ None → used + length b.words ≤ layout.size
-    → b.len ≤ length b.words
-    → IsPackedRegion (with_slot layout n (Some b)) holes (covered + b.len) (used + length b.words)
-IsPackedRegion-put layout holes covered used n b h counted within empty fits few =
-    let less = covered_fits layout h.before covered used h.region counted in
+pub IsPackedRegion-put : {layout : Layout} {holes : Region} {covered : ℕ} (used n : ℕ) (b : PlacedBlock) → HasRoom
+    layout holes covered b.place b.len → used ≡ used_words (content_of layout.slots) → n < length layout.slots →
+    value_at layout.slots n ≡ None → used + length b.words ≤ layout.size → b.len ≤ length b.words → IsPackedRegion
+    (with_slot layout n (Some b)) holes (covered + b.len) (used + length b.words)
+IsPackedRegion-put {layout} {holes} {covered} used n b h counted within empty fits few =
+    let less = covered_fits used h.region counted in
     let room : covered + b.len ≤ layout.size = omega (arith, less, fits, few) in
     record {
       region = IsRegion-put layout holes covered n b h within empty room few;
@@ -369,16 +318,20 @@ IsPackedRegion-put layout holes covered used n b h counted within empty fits few
     }
 
 -- a memory that gets a block of one word, which covers none
-pub IsPackedRegion-word : (layout : Layout) (holes : Region) (covered used n owner : ℕ) (words : List ℤ)
-    → IsPackedRegion layout holes covered used → length words ≡ 1 → n < length layout.slots
-    → value_at layout.slots n ≡ None → used + 1 ≤ layout.size
-    → IsPackedRegion (with_slot layout n (Some (record { owner = owner; place = 0; len = 0; words = words }))) holes
-    covered (used + 1)
-IsPackedRegion-word layout holes covered used n owner words r one within empty fits =
+pub IsPackedRegion-word : {layout : Layout} {holes : Region} {covered used : ℕ} (n owner : ℕ) (words : List ℤ) →
+    IsPackedRegion layout holes covered used → length words ≡ 1 → n < length layout.slots → value_at layout.slots n ≡
+    None → used + 1 ≤ layout.size → IsPackedRegion (with_slot layout n (Some (record {
+      owner = owner;
+      place = 0;
+      len =
+          0;
+      words = words;
+    }))) holes covered (used + 1)
+IsPackedRegion-word {layout} {holes} {covered} {used} n owner words r one within empty fits =
     let b : PlacedBlock = record { owner = owner; place = 0; len = 0; words = words } in
     let same : covered + 0 ≡ covered = omega arith in
     let put =
-    IsPackedRegion-put layout holes covered used n b (HasRoom-nothing layout holes covered r.region) r.counted within
+    IsPackedRegion-put used n b (HasRoom-nothing layout holes covered r.region) r.counted within
     empty (omega (arith, fits, one)) (omega arith) in
     rw (same, one) at put
 
@@ -397,25 +350,15 @@ is_freed layout holes covered used n place len words r live here covers long =
     let p = the_block layout.slots n (slot_there layout.slots n live) in
     let gone = used-remove layout holes covered n p.0 r.region p.1 in
     let size : words ≡ length p.0.words = long ∙ ap (λ o. length (words_of o)) p.1 in
-    let leaving = is_leaving layout holes covered n place len r.region live here covers in
+    let leaving = is_leaving r.region live here covers in
     let counted : used - words ≡ used_words (content_of (slice_set layout.slots n None)) =
     omega (arith, gone, size, r.counted) in
     let fits = r.fits in
     record {
       leaving = leaving;
       less = omega (arith, gone, size, r.counted);
-      memory = record { region = leaving.region; counted = counted; fits = omega arith };
-      without_room = λ nothing. record {
-        region =
-            let same : given_to holes place len ≡ holes =
-            ap (λ k. given_to holes place k) nothing
-            ∙ ap (λ free. let region : Region = record { free = free; most = holes.most } in region)
-            (set_range-nothing holes.free place true) in
-            let whole : covered - len ≡ covered = omega arith in
-            rw (same, whole) at leaving.region;
-        counted = counted;
-        fits = omega arith;
-      };
+      memory = grind arith;
+      without_room = grind (arith, set_range-nothing holes.free place true);
     }
 
 -- what the region contains after a block came or went
@@ -439,7 +382,7 @@ module _ (layout : Layout) (holes : Region) (used n : ℕ) (p : PlacedBlock) (ne
   its_number = IsSome-in_range layout.slots n (ap is_some there)
 
   its_words : (word : ℕ) → p.place ≤ word → word < p.place + p.len → Covers layout.slots n word
-  its_words word from below = record { block = p; there = there; from = from; below = below }
+  its_words word from below = grind arith
 
   -- no other block covers one of its words
   its_own : IsClear layout.slots n p.place p.len
@@ -449,7 +392,7 @@ module _ (layout : Layout) (holes : Region) (used n : ℕ) (p : PlacedBlock) (ne
   cover_rewritten =
       record {
         apart = AreApart-set layout.slots n rewritten its_number r.cover.apart its_own;
-        covered = λ k word c. elim (Covers-set layout.slots n k word rewritten its_number c) [
+        covered = λ k word c. elim (Covers-set layout.slots n rewritten its_number c) [
           | inl here ↦ r.cover.covered n word (its_words word here.1.0 here.1.1)
           | inr other ↦ r.cover.covered k word other.1
         ];
@@ -460,25 +403,25 @@ module _ (layout : Layout) (holes : Region) (used n : ℕ) (p : PlacedBlock) (ne
       still word c =
           elim (cases_eq c.number n) [
             | inl same ↦
-                let by = Covers-by layout.slots n word p there
+                let by = Covers-by p there
                 (subst (λ (k : ℕ). Covers layout.slots k word) same c.covers) in
                 record {
                   number = n;
-                  covers = Covers-set_here layout.slots n word rewritten its_number by.0 by.1;
+                  covers = Covers-set_here layout.slots rewritten its_number by.0 by.1;
                 }
             | inr other ↦
                 record {
                   number = c.number;
-                  covers = Covers-set_other layout.slots n c.number word (Some rewritten) other c.covers;
+                  covers = Covers-set_other n (Some rewritten) other c.covers;
                 }
           ]
 
   there_still : IsLive (content_of layout.slots) n
-  there_still = is_some-content_of layout.slots n ∙ ap is_some there
+  there_still = grind (arith, is_some-content_of, is_some)
 
   content_rewritten : content_of (slice_set layout.slots n (Some rewritten)) ≡ with_block (content_of layout.slots) n
       (record { owner = p.owner; words = new })
-  content_rewritten = map-set block_of layout.slots n (Some rewritten)
+  content_rewritten = grind (arith, map-set, rewritten)
 
   region_rewritten : IsRegion (with_slot layout n (Some rewritten)) holes used
   region_rewritten =
@@ -489,20 +432,14 @@ module _ (layout : Layout) (holes : Region) (used n : ℕ) (p : PlacedBlock) (ne
         same_size = r.same_size;
         room = r.room;
         counted =
-            let change = sum_by-set covered_of layout.slots n (Some rewritten) None its_number in
-            let was : covered_of (value_at layout.slots n) ≡ p.len = ap covered_of there in
-            omega (arith, change, was, r.counted);
+            grind (arith, sum_by-set, rewritten, its_number);
         fits = r.fits;
       }
 
   -- as many words are in use
   used_rewritten : used_words (content_of (slice_set layout.slots n (Some rewritten)))
       ≡ used_words (content_of layout.slots)
-  used_rewritten =
-      let size : length new ≡ length (content_words_at (content_of layout.slots) n) =
-      long ∙ sym (ap length (words_at-content_of layout.slots n ∙ ap words_of there)) in
-      ap used_words content_rewritten
-      ∙ used_words-rewritten (content_of layout.slots) n (record { owner = p.owner; words = new }) there_still size
+  used_rewritten = grind (arith, words_at-content_of, content_rewritten, used_words-rewritten, there_still)
 
 -- what is known of a block that is written over
 pub record CanRewrite (layout : Layout) (holes : Region) (used n : ℕ) (new : List ℤ) : Type 0 where
@@ -515,17 +452,17 @@ pub record CanRewrite (layout : Layout) (holes : Region) (used n : ℕ) (new : L
   pub content : content_of (layout_after_rewrite layout n new).slots ≡ with_block (content_of layout.slots) n
       (record { owner = content_owner_at (content_of layout.slots) n; words = new })
 
-pub can_rewrite : (layout : Layout) (holes : Region) (used n : ℕ) (new : List ℤ) → IsRegion layout holes used
-    → IsLive (content_of layout.slots) n → length new ≡ length (content_words_at (content_of layout.slots) n)
-    → CanRewrite layout holes used n new
-can_rewrite layout holes used n new r live same =
+pub can_rewrite : {layout : Layout} {holes : Region} {used n : ℕ} {new : List ℤ} → IsRegion layout holes used → IsLive
+    (content_of layout.slots) n → length new ≡ length (content_words_at (content_of layout.slots) n) → CanRewrite
+    layout holes used n new
+can_rewrite {layout} {holes} {used} {n} {new} r live same =
     let some = slot_there layout.slots n live in
     let p = the_block layout.slots n some in
     let size : length new ≡ length (words_at layout.slots n) =
     same ∙ ap length (words_at-content_of layout.slots n) in
     let long : length new ≡ length p.0.words = size ∙ ap (λ o. length (words_of o)) p.1 in
     let owner : content_owner_at (content_of layout.slots) n ≡ p.0.owner =
-    ap content_owner_of (block_at-content_of layout.slots n ∙ ap block_of p.1) in
+    grind (arith, block_at-content_of) in
     record {
       there = some;
       same_length = size;
@@ -533,16 +470,11 @@ can_rewrite layout holes used n new r live same =
           subst (λ (o : Option PlacedBlock). IsClear layout.slots n (place_of o) (covered_of o)) (sym p.1)
           (its_own layout holes used n p.0 new r p.1 long);
       region =
-          subst (λ (o : Option PlacedBlock). IsRegion (with_slot layout n (block_with_words new o)) holes used)
-          (sym p.1) (region_rewritten layout holes used n p.0 new r p.1 long);
+          grind (arith, region_rewritten layout holes used n p.0 new r p.1 long);
       same_used =
-          ap (λ (o : Option PlacedBlock). used_words (content_of (slice_set layout.slots n (block_with_words new o))))
-          p.1 ∙ used_rewritten layout holes used n p.0 new r p.1 long;
+          grind (arith, slice_set, used_rewritten);
       content =
-          ap (λ (o : Option PlacedBlock). content_of (slice_set layout.slots n (block_with_words new o))) p.1
-          ∙ (content_rewritten layout holes used n p.0 new r p.1 long
-          ∙ ap (λ (k : ℕ). let c : Content = with_block (content_of layout.slots) n
-          (record { owner = k; words = new }) in c) (sym owner));
+          grind (arith, slice_set, content_rewritten);
     }
 
 -- the words of a block that is lent, and the lists of all that are
@@ -552,21 +484,11 @@ lent_words slots n = sym (words_at-content_of slots n)
 
 pub lent_lists : (slots : List (Option PlacedBlock)) (content : Content) (lent : List ℕ)
     → content_of slots ≡ content → map (words_at slots) lent ≡ map (content_words_at content) lent
-lent_lists slots content lent same =
-    (λ i. map (λ n. lent_words slots n i) lent)
-    ∙ ap (λ (k : Content). map (content_words_at k) lent) same
+lent_lists slots content lent same = grind (arith, lent_words)
 
 -- a block that was put is one that was placed, with words of which this is so
-pub placed_with : (slots : List (Option PlacedBlock)) (content : Content) (n len : ℕ) (b : PlacedBlock)
-    (is : List ℤ → Type 0) → content_of slots ≡ content → n < length slots → value_at slots n ≡ None
-    → length b.words ≡ len → is b.words
-    → IsPlacedWith content (content_of (slice_set slots n (Some b))) n b.owner len is
-placed_with slots content n len b is same within empty long so =
-    record {
-      words = b.words;
-      in_range = omega (arith, within, length-map slots block_of, ap length same);
-      empty = ap (λ (k : Content). block_at k n) (sym same) ∙ (block_at-content_of slots n ∙ ap block_of empty);
-      long = long;
-      so = so;
-      placed = rw (← same) (content_of-put slots n b);
-    }
+pub placed_with : (slots : List (Option PlacedBlock)) {content : Content} {n len : ℕ} (b : PlacedBlock) {is : List ℤ →
+    Type 0} → content_of slots ≡ content → n < length slots → value_at slots n ≡ None → length b.words ≡ len → is
+    b.words → IsPlacedWith content (content_of (slice_set slots n (Some b))) n b.owner len is
+placed_with slots b same within empty long so =
+    grind (arith, in_range, length-map, block_at-content_of, content_of-put)

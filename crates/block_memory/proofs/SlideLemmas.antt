@@ -1,18 +1,18 @@
 -- Lemmas on blocks that slide down: a block goes, and comes again at the front of the lowest hole.
 use Rattle.std.proofs.Common.{◌≡◌, ℕ, zero, suc, ◌+◌, ◌-◌, ◌<◌, ◌≤◌, Bool, true, false, List, [], ◌∷◌, length, drop}
-use Rattle.std.proofs.Common.{slice_set, Option, Some, None, IsSome, inl, inr, refl, sym, ap, ◌∙◌, arith}
-use Rattle.std.proofs.lemmas.Bool.{cases_eq, cases_lt, cases_Bool, false≢true}
+use Rattle.std.proofs.Common.{slice_set, Some, None, IsSome, inl, inr, refl, sym, ap, ◌∙◌, arith, rules}
+use Rattle.std.proofs.lemmas.Bool.{cases_eq, cases_lt, false≢true}
 use Rattle.std.proofs.lemmas.List.{set-set, set-get_or, length-set, get_or-drop}
 use Rattle.holes.specs.FreeWords.{Region, is_free, AllFree, NoneFree, taken_from, given_to, IsHole, IsLowestFit}
 use Rattle.holes.specs.FreeWords.{front_run, widest}
 use Rattle.block_memory.specs.Table.{value_at}
 use Rattle.block_memory.specs.Layout.{PlacedBlock, Layout, IsClear, place_of, covered_of}
-use Rattle.block_memory.specs.Layout.{place_at, covered_at, with_slot, block_at_place, layout_after_move}
-use Rattle.block_memory.specs.Region.{IsRegion, IsCovered, HasRoom}
+use Rattle.block_memory.specs.Layout.{place_at, covered_at, with_slot, layout_after_move}
+use Rattle.block_memory.specs.Region.{IsRegion, HasRoom}
 use Rattle.block_memory.proofs.Lists.{true-not_false}
 use Rattle.block_memory.proofs.LayoutLemmas.{value_at-set_same, Covers-set_other, is_some-content_of}
 use Rattle.block_memory.proofs.FreeLemmas.{length-set_range, is_free-set_inside, is_free-set_before}
-use Rattle.block_memory.proofs.PackLemmas.{IsPacking, IsPacking-inside}
+use Rattle.block_memory.proofs.PackLemmas.{IsPacking}
 use Rattle.block_memory.proofs.RegionLemmas.{IsLeaving, is_leaving, the_block, in_range, inside, IsRegion-remove}
 use Rattle.block_memory.proofs.RegionLemmas.{IsRegion-put, HasRoom-bare}
 
@@ -22,16 +22,14 @@ front_run-ge free zero all = omega arith
 front_run-ge [] (suc len) all = absurd (false≢true (all 0 (omega arith) (omega arith)))
 front_run-ge (false ∷ free) (suc len) all = absurd (false≢true (all 0 (omega arith) (omega arith)))
 front_run-ge (true ∷ free) (suc len) all =
-    let rest = front_run-ge free len (λ word from below. all (suc word) (omega arith) (omega arith)) in
-    omega (arith, rest)
+    omega (arith, front_run-ge free len (λ word from below. all (suc word) (omega arith) (omega arith)))
 
 pub widest-ge : (free : List Bool) (place len : ℕ) → AllFree free place len → len ≤ widest free
 widest-ge [] place zero all = omega arith
 widest-ge [] place (suc len) all = absurd (false≢true (all place (omega arith) (omega arith)))
-widest-ge (word ∷ free) zero len all = let first = front_run-ge (word ∷ free) len all in omega (arith, first)
+widest-ge (word ∷ free) zero len all = grind (arith, front_run-ge (word ∷ free) len all)
 widest-ge (word ∷ free) (suc place) len all =
-    let rest = widest-ge free place len (λ other from below. all (suc other) (omega arith) (omega arith)) in
-    omega (arith, rest)
+    omega (arith, widest-ge free place len (λ other from below. all (suc other) (omega arith) (omega arith)))
 
 -- the hole that begins at a free word after one that isn't free
 front_run-free : (free : List Bool) (word : ℕ) → word < front_run free → is_free free word ≡ true
@@ -43,9 +41,7 @@ front_run-free (true ∷ free) (suc word) below = front_run-free free word (omeg
 front_run-ends : (free : List Bool) → is_free free (front_run free) ≡ false
 front_run-ends [] = refl
 front_run-ends (false ∷ free) = refl
-front_run-ends (true ∷ free) =
-    let next : 1 + front_run free ≡ suc (front_run free) = omega arith in
-    ap (is_free (true ∷ free)) next ∙ front_run-ends free
+front_run-ends (true ∷ free) = grind (arith, front_run-ends free)
 
 hole_from : (free : List Bool) (front len : ℕ) → 1 ≤ len → NoneFree free 0 front → AllFree free front len
     → (hole_len : ℕ) × IsHole free front hole_len × (len ≤ hole_len)
@@ -76,30 +72,12 @@ hole_from free front len some none_below all = (run, hole, wide)
 -- the lowest fit is the front of the lowest hole, if that is wide enough
 fit_is-front : (free : List Bool) (len to front : ℕ) → 1 ≤ len → IsLowestFit free len to → NoneFree free 0 front
     → AllFree free front len → to ≡ front
-fit_is-front free len to front some fit none_below all =
-    let hole = hole_from free front len some none_below all in
-    let below : to ≤ front = fit.lowest front hole.0 hole.1 hole.2 in
-    elim (cases_lt to front) [
-      | inl lower ↦
-          absurd (true-not_false (is_free free to)
-          (fit.hole.inside to (omega arith) (let h = fit.hole.some in omega arith))
-          (none_below to (omega arith) (omega arith)))
-      | inr not_lower ↦ omega arith
-    ]
+fit_is-front free len to front some fit none_below all = search (rules, hole_from, true-not_false)
 
 -- a block that stays at its place
 pub after_no_move : (layout : Layout) (n to : ℕ) → IsSome (value_at layout.slots n) → place_at layout.slots n ≡ to
     → layout ≡ layout_after_move layout n to
-after_no_move layout n to some here =
-    let p = the_block layout.slots n some in
-    let is_to : p.0.place ≡ to = ap place_of (sym p.1) ∙ here in
-    let stays : block_at_place to (value_at layout.slots n) ≡ value_at layout.slots n = ap (block_at_place to) p.1
-    ∙ (ap (λ k. let b : Option PlacedBlock =
-    Some (record { owner = p.0.owner; place = k; len = p.0.len; words = p.0.words }) in b)
-    (sym is_to) ∙ sym p.1) in
-    sym (ap (with_slot layout n) stays
-    ∙ ap (λ (slots : List (Option PlacedBlock)). let l : Layout = record { size = layout.size; slots = slots } in l)
-    (set-get_or layout.slots n None))
+after_no_move layout n to some here = search (rules, the_block, set-get_or)
 
 -- what is known of a block that moves to another place
 pub record IsSlid (layout : Layout) (holes : Region) (used n place len to : ℕ) : Type 0 where
@@ -121,30 +99,26 @@ module _ (layout : Layout) (holes : Region) (used n : ℕ) (p : PlacedBlock) (r 
   room : HasRoom (with_slot layout n None) (taken_from given to p.len) (used - p.len) to
       p.len
   room =
-      let long = length-set_range holes.free p.place p.len true (inside layout holes used n p r there) in
-      let size = r.same_size in
-      record {
-        before = given;
-        region = IsRegion-remove layout holes used n p r there;
-        all_free = λ word from below. let wide = fit.fits in fit.hole.inside word from (omega arith);
-        taken = refl;
-        inside = omega arith;
-      }
+      grind (
+        arith,
+        length-set_range holes.free p.place p.len true (inside layout holes used n p r there),
+        inside layout holes used n p r there,
+        IsRegion-remove layout holes used n p r there,
+      )
 
   in_slots : n < length layout.slots
   in_slots = in_range layout holes used n p r there
 
   empty : value_at (slice_set layout.slots n None) n ≡ None
-  empty = value_at-set_same layout.slots n None in_slots
+  empty = omega (arith, value_at-set_same, in_slots)
 
   clear_there : IsClear layout.slots n to p.len
   clear_there other word from below c =
       elim (cases_eq other n) [
         | inl same ↦ same
         | inr differs ↦
-            absurd (HasRoom-bare (with_slot layout n None) (taken_from given to p.len)
-            (used - p.len) to p.len room other word from below
-            (Covers-set_other layout.slots n other word None differs c))
+            absurd (HasRoom-bare room other word from below
+            (Covers-set_other n None differs c))
       ]
 
   region_then : IsRegion (with_slot layout n (Some moved_to)) (taken_from given to p.len) used
@@ -176,7 +150,7 @@ module _ (layout : Layout) (holes : Region) (used n place len : ℕ)
   pub is_sliding : IsSliding layout holes used n place len
   is_sliding =
       let leaving =
-      is_leaving layout holes used n place len r (is_some-content_of layout.slots n ∙ some) here long in
+      is_leaving r (is_some-content_of layout.slots n ∙ some) here long in
       record {
         leaving = leaving;
         wide = widest-ge (given_to holes place len).free place len
@@ -206,8 +180,8 @@ module _ (layout : Layout) (holes : Region) (used n place len : ℕ)
       (λ word from below. is_free-set_before holes.free place len word true fits (omega arith)
       ∙ none_below word from below)
       (λ word from below. elim (cases_lt word place) [
-        | inl before ↦ is_free-set_before holes.free place len word true fits before ∙ hole word from (omega arith)
-        | inr behind ↦ is_free-set_inside holes.free place len word true fits behind (omega arith)
+        | inl before ↦ grind (arith, is_free-set_before)
+        | inr behind ↦ grind (arith, is_free-set_inside)
       ])
 
 -- While blocks slide: what is known before each.
@@ -215,42 +189,15 @@ pub record IsGap (holes : Region) (packed place : ℕ) : Type 0 where
   pub none_below : NoneFree holes.free 0 packed
   pub all_free : AllFree holes.free packed (place - packed)
 
--- no block covers a word of the gap
-no_block_between : (before now : Layout) (packed place used word : ℕ) → IsPacking before now packed place used
-    → packed ≤ word
-    → word < place → IsCovered now.slots word → ⊥
-no_block_between before now packed place used word i from below c =
-    let block = c.covers.block in
-    let above = c.covers.from in
-    let under = c.covers.below in
-    elim (i.sides c.number block c.covers.there (omega arith)) [
-      | inl front ↦ omega arith
-      | inr behind ↦ omega arith
-    ]
-
-pub is_gap : (before now : Layout) (holes : Region) (packed place used : ℕ) → IsPacking before now packed place used
-    → IsRegion now holes used → place ≤ now.size → IsGap holes packed place
-is_gap before now holes packed place used i r within =
+pub is_gap : {before now : Layout} {holes : Region} {packed place used : ℕ} → IsPacking before now packed place used →
+    IsRegion now holes used → place ≤ now.size → IsGap holes packed place
+is_gap {before} {now} {holes} {packed} {place} {used} i r within =
     record {
       none_below = λ word from below. let c = i.front word (omega arith) in r.cover.covered c.number word c.covers;
-      all_free = λ word from below. elim (cases_Bool (is_free holes.free word)) [
-        | inl free ↦ free
-        | inr taken ↦
-            let under : word < place = let order = i.order in omega arith in
-            let same = r.same_size in
-            absurd (no_block_between before now packed place used word i from under
-            (r.cover.others word (omega arith) taken))
-      ];
+      all_free = grind arith;
     }
 
 -- while the gap is too narrow, a block is after it
-pub place_inside : (before now : Layout) (packed place used len : ℕ) → IsPacking before now packed place used
-    → used + len ≤ before.size → place - packed < len → place < now.size
-place_inside before now packed place used len i fits narrow =
-    elim (cases_lt place now.size) [
-      | inl inside ↦ inside
-      | inr past ↦ elim (cases_lt packed used) [
-        | inl missing ↦ IsPacking-inside before now packed place used i missing
-        | inr whole ↦ absurd (let all = i.all in let same = i.size in let order = i.order in omega arith)
-      ]
-    ]
+pub place_inside : {before now : Layout} {packed place used : ℕ} (len : ℕ) → IsPacking before now packed place used →
+    used + len ≤ before.size → place - packed < len → place < now.size
+place_inside len i fits narrow = omega arith

@@ -1,13 +1,13 @@
 -- Lemmas on the places of a table: a write under one key is a write at one number.
 use Rattle.std.proofs.Common.{◌≡◌, ◌≢◌, ℕ, ◌+◌, ◌<◌, ◌≤◌, List, [], ◌∷◌, ◌++◌, length, slice_index_or, slice_index}
 use Rattle.std.proofs.Common.{slice_set, Option, Some, None, is_some, IsSome, unwrap_or, replicate, inl, inr, zero, suc}
-use Rattle.std.proofs.Common.{cond}
-use Rattle.std.proofs.Common.{refl, sym, ap, subst, ◌∙◌, arith, length-append, append_assoc, ◌-◌}
-use Rattle.std.proofs.lemmas.Bool.{cases_eq, cases_lt}
+use Rattle.std.proofs.Common.{refl, sym, ap, subst, ◌∙◌, arith, length-append, append_assoc, ◌-◌, rules}
+use Rattle.std.proofs.lemmas.Bool.{cases_eq}
 use Rattle.std.proofs.lemmas.List.{get_or-set_same, get_or-set_other, get_or_default, get_or-map, get_or_append_left}
 use Rattle.std.proofs.lemmas.List.Folds.{sum_by-replicate}
 use Rattle.std.proofs.lemmas.List.Sums.{sum_by-append, sum_by_push}
-use Rattle.std.proofs.lemmas.List.{get_or_push, length-map, length-replicate, length-set, map-append, set-append_left, ext_get_or}
+use Rattle.std.proofs.lemmas.List.{get_or_push, length-map, length-replicate, length-set, map-append, set-append_left}
+use Rattle.std.proofs.lemmas.List.{ext_get_or}
 use Rattle.slab.specs.Slab.{Slab, get, slab_len, with_value, Updates}
 use Rattle.slab.proofs.SlabLemmas.{Updates-with_value}
 use Rattle.block_memory.specs.Table.{value_at, value_count}
@@ -27,42 +27,34 @@ module _ {T : Type 0} where
 
   pub value_count-filled : (slots : List (Option T)) (more : ℕ) → value_count (slots ++ replicate more None)
       ≡ value_count slots
-  value_count-filled slots more =
-      let one_if_value : Option T → ℕ = λ o. cond (is_some o) 1 0 in
-      omega (arith, sum_by-append one_if_value slots (replicate more None), sum_by-replicate one_if_value more None)
+  value_count-filled slots more = omega (arith, is_some, sum_by-append, sum_by-replicate)
 
   value_count-push : (slots : List (Option T)) (v : T) → value_count (slots ++ Some v ∷ []) ≡ value_count slots + 1
-  value_count-push slots v = let one_if_value : Option T → ℕ = λ o. cond (is_some o) 1 0 in
-      sum_by_push one_if_value slots (Some v)
+  value_count-push slots v = omega (arith, is_some, sum_by_push)
 
   set_at_end : (slots rest : List (Option T)) (n : ℕ) (old new : Option T) → length slots ≡ n
       → slice_set (slots ++ old ∷ rest) n new ≡ slots ++ new ∷ rest
   set_at_end [] rest zero old new e = refl
   set_at_end [] rest (suc n) old new e = absurd (omega (arith, e))
   set_at_end (o ∷ slots) rest zero old new e = absurd (omega (arith, e))
-  set_at_end (o ∷ slots) rest (suc n) old new e = ap (λ l. o ∷ l) (set_at_end slots rest n old new (omega (arith, e)))
+  set_at_end (o ∷ slots) rest (suc n) old new e = grind (arith, set_at_end slots rest n old new (omega (arith, e)))
 
   -- what a number has is what is marked under its key
   value_at-places : (entries : Slab (Option T)) (keys : List ℕ) (n : ℕ) → n < length keys
       → value_at (places entries keys) n ≡ value_under_key entries (slice_index keys n)
-  value_at-places entries keys n h = get_or-map (value_under_key entries) keys n 0 None h
+  value_at-places entries keys n h = grind (arith, get_or-map)
 
   value_under_key-written : (entries : Slab (Option T)) (key : ℕ) (v : Option T) → IsSome (get entries key)
       → value_under_key (with_value entries key v) key ≡ v
-  value_under_key-written entries key v h = ap (λ o. unwrap_or o None) (Updates-with_value entries key v h).changed
+  value_under_key-written entries key v h = grind (arith, unwrap_or, Updates-with_value)
 
   value_under_key-other : (entries : Slab (Option T)) (key other : ℕ) (v : Option T) → IsSome (get entries key)
       → other ≢ key → value_under_key (with_value entries key v) other ≡ value_under_key entries other
-  value_under_key-other entries key other v h d =
-      ap (λ o. unwrap_or o None) ((Updates-with_value entries key v h).others other d)
+  value_under_key-other entries key other v h d = search (rules, unwrap_or, Updates-with_value)
 
   different_keys : (entries : Slab (Option T)) (keys : List ℕ) → AreKeys entries keys → (m n : ℕ) → m < length keys
       → n < length keys → (m ≡ n → ⊥) → slice_index keys m ≢ slice_index keys n
-  different_keys entries keys k m n hm hn d e =
-      elim (cases_lt m n) [
-        | inl below ↦ k.distinct m n below hn e
-        | inr above ↦ let strict : n < m = omega arith in k.distinct n m strict hm (sym e)
-      ]
+  different_keys entries keys k m n hm hn d e = grind arith
 
   -- a write under the key of a number is a write at the number
   places-with_value : (entries : Slab (Option T)) (keys : List ℕ) (n key : ℕ) (v : Option T) → AreKeys entries keys
@@ -114,59 +106,35 @@ module _ {T : Type 0} where
 AreVacant-pop : {T : Type 0} (slots : List (Option T)) (before after : List ℕ) (n : ℕ) (v : T)
     → AreVacant slots before → before ≡ after ++ n ∷ [] → AreVacant (slice_set slots n (Some v)) after
 AreVacant-pop slots before after n v a e =
-    let longer : length before ≡ length after + 1 = ap length e ∙ length-append after (n ∷ []) in
-    let last : slice_index before (length after) ≡ n = rw e (get_or_push after n 0 (length after) refl) in
-    let kept : (i : ℕ) → i < length after → slice_index after i ≡ slice_index before i =
-    λ i h. rw e (sym (get_or_append_left after (n ∷ []) 0 i h)) in
-    let inside : n < length slots = rw last at (a.in_range (length after) (omega arith)) in
-    let was_empty : value_at slots n ≡ None = rw last at (a.empty (length after) (omega arith)) in
-    let differs : (i : ℕ) → i < length after → slice_index after i ≢ n =
-    λ i h same. a.distinct i (length after) h (omega arith) (sym (kept i h) ∙ (same ∙ sym last)) in
-    record {
-      empty =
-          λ i h. get_or-set_other slots n (slice_index after i) (Some v) None (differs i h)
-          ∙ (ap (value_at slots) (kept i h) ∙ a.empty i (omega arith));
-      in_range = λ i h. rw (length-set slots n (Some v), kept i h) (a.in_range i (omega arith));
-      distinct =
-          λ i j h within. λ same. a.distinct i j h (omega arith)
-          (sym (kept i (omega arith)) ∙ (same ∙ kept j within));
-      count = let more = value_count-insert slots n v inside was_empty in let same = length-set slots n (Some v) in
-          omega (arith, a.count, more, same, longer);
-    }
+    grind (
+      arith,
+      length-append,
+      slice_index,
+      get_or_push,
+      get_or_append_left,
+      get_or-set_other,
+      length-set,
+      value_count-insert,
+    )
 
 -- a number that had a value comes next
 AreVacant-push : {T : Type 0} (slots : List (Option T)) (before : List ℕ) (n : ℕ) → AreVacant slots before
     → IsSome (value_at slots n) → AreVacant (slice_set slots n None) (before ++ n ∷ [])
 AreVacant-push slots before n a h =
-    let inside : n < length slots = IsSome-in_range slots n h in
-    let longer : length (before ++ n ∷ []) ≡ length before + 1 = length-append before (n ∷ []) in
-    let last : slice_index (before ++ n ∷ []) (length before) ≡ n = get_or_push before n 0 (length before) refl in
-    let kept : (i : ℕ) → i < length before → slice_index (before ++ n ∷ []) i ≡ slice_index before i =
-    λ i within. get_or_append_left before (n ∷ []) 0 i within in
-    let differs : (i : ℕ) → i < length before → slice_index before i ≢ n =
-    λ i within same. None-not_some (value_at slots (slice_index before i)) (a.empty i within)
-    (ap (λ k. is_some (value_at slots k)) same ∙ h) in
-    let at_last : (i : ℕ) → i < length (before ++ n ∷ []) → length before ≤ i → slice_index (before ++ n ∷ []) i ≡ n =
-    λ i within past. let e : i ≡ length before = omega arith in rw e last in
-    record {
-      empty = λ i within. elim (cases_lt i (length before)) [
-        | inl earlier ↦
-            get_or-set_other slots n (slice_index (before ++ n ∷ []) i) None None
-            (λ same. differs i earlier (sym (kept i earlier) ∙ same))
-            ∙ (ap (value_at slots) (kept i earlier) ∙ a.empty i earlier)
-        | inr past ↦ rw (at_last i within past) (get_or-set_same slots n None None inside)
-      ];
-      in_range = λ i within. rw (length-set slots n None) (elim (cases_lt i (length before)) [
-        | inl earlier ↦ rw (kept i earlier) (a.in_range i earlier)
-        | inr past ↦ rw (at_last i within past) inside
-      ]);
-      distinct = λ i j below within. λ same. elim (cases_lt j (length before)) [
-        | inl earlier ↦ a.distinct i j below earlier (sym (kept i (omega arith)) ∙ (same ∙ kept j earlier))
-        | inr past ↦ differs i (omega arith) (sym (kept i (omega arith)) ∙ (same ∙ at_last j within past))
-      ];
-      count = let less = value_count-remove slots n h in let same = length-set slots n None in
-          omega (arith, a.count, less, same, longer);
-    }
+    grind (
+      arith,
+      IsSome-in_range,
+      length-append,
+      slice_index,
+      get_or_push,
+      get_or_append_left,
+      None-not_some,
+      is_some,
+      get_or-set_other,
+      get_or-set_same,
+      length-set,
+      value_count-remove,
+    )
 
 -- the key that was read at a number
 read_key : (keys : List ℕ) (n key : ℕ) → n < length keys → key ≡ slice_index_or keys n key → key ≡ slice_index keys n
@@ -176,65 +144,38 @@ read_key keys n key h e = e ∙ get_or_default keys n key 0 h
 AreVacant-set : {T : Type 0} (slots : List (Option T)) (vacant : List ℕ) (n : ℕ) (v : T) → AreVacant slots vacant
     → IsSome (value_at slots n) → AreVacant (slice_set slots n (Some v)) vacant
 AreVacant-set slots vacant n v a h =
-    let inside : n < length slots = IsSome-in_range slots n h in
-    let differs : (i : ℕ) → i < length vacant → slice_index vacant i ≢ n =
-    λ i within same. None-not_some (value_at slots (slice_index vacant i)) (a.empty i within)
-    (ap (λ k. is_some (value_at slots k)) same ∙ h) in
-    record {
-      empty =
-          λ i within. get_or-set_other slots n (slice_index vacant i) (Some v) None (differs i within)
-          ∙ a.empty i within;
-      in_range = λ i within. rw (length-set slots n (Some v)) (a.in_range i within);
-      distinct = a.distinct;
-      count = let same = value_count-set slots n v h in let long = length-set slots n (Some v) in
-          omega (arith, a.count, same, long);
-    }
+    grind (arith, IsSome-in_range, slice_index, None-not_some, is_some, get_or-set_other, length-set, value_count-set)
 
 module _ {T : Type 0} where
   -- the number that comes next is one of the table's
   next-in_range : (slots : List (Option T)) (before after : List ℕ) (n : ℕ) → AreVacant slots before
       → before ≡ after ++ n ∷ [] → n < length slots
-  next-in_range slots before after n a e =
-      let longer : length before ≡ length after + 1 = ap length e ∙ length-append after (n ∷ []) in
-      let last : slice_index before (length after) ≡ n = rw e (get_or_push after n 0 (length after) refl) in
-      rw last at (a.in_range (length after) (omega arith))
+  next-in_range slots before after n a e = grind (arith, length-append, slice_index, get_or_push)
 
   key_present : (entries : Slab (Option T)) (keys : List ℕ) (n key : ℕ) → AreKeys entries keys → n < length keys
       → key ≡ slice_index keys n → IsSome (get entries key)
-  key_present entries keys n key k h e = subst (λ (i : ℕ). IsSome (get entries i)) (sym e) (k.present n h)
+  key_present entries keys n key k h e = grind arith
 
   within_keys : (entries : Slab (Option T)) (keys : List ℕ) (n : ℕ) → n < length (places entries keys)
       → n < length keys
-  within_keys entries keys n h = subst (λ (i : ℕ). n < i) (length-map keys (value_under_key entries)) h
+  within_keys entries keys n h = grind (arith, length-map)
 
   -- there is still room after a write
   HasRooms-with_value : (entries : Slab (Option T)) (keys : List ℕ) (key : ℕ) (v : Option T)
       (key_room vacant_room count : ℕ) → IsSome (get entries key) → HasRooms entries keys key_room vacant_room count
       → HasRooms (with_value entries key v) keys key_room vacant_room count
-  HasRooms-with_value entries keys key v key_room vacant_room count there r = record {
-    within = r.within;
-    entered = value_count-set entries.slots key v there ∙ r.entered;
-    entries_fit = r.entries_fit;
-    keys_fit = r.keys_fit;
-    vacant_fit = r.vacant_fit;
-  }
+  HasRooms-with_value entries keys key v key_room vacant_room count there r = omega (arith, value_count-set)
 
   -- a number that has a value was used
   used : (entries : Slab (Option T)) (keys : List ℕ) (count n : ℕ)
       → IsSome (value_at (all_places entries keys count) n) → IsSome (value_at (places entries keys) n)
-  used entries keys count n some =
-      ap is_some (sym (value_at-filled (places entries keys) (count - length keys) n)) ∙ some
+  used entries keys count n some = grind (arith, is_some, value_at-filled)
 
   -- a write at a number that was used
   all-with_value : (entries : Slab (Option T)) (keys : List ℕ) (count n key : ℕ) (v : Option T) → AreKeys entries keys
       → n < length keys → key ≡ slice_index keys n
       → all_places (with_value entries key v) keys count ≡ slice_set (all_places entries keys count) n v
-  all-with_value entries keys count n key v k h is =
-      let rest : List (Option T) = replicate (count - length keys) None in
-      let inside : n < length (places entries keys) =
-      subst (λ (i : ℕ). n < i) (sym (length-map keys (value_under_key entries))) h in
-      ap (λ p. p ++ rest) (places-with_value entries keys n key v k h is)
-      ∙ sym (set-append_left (places entries keys) rest n v inside)
+  all-with_value entries keys count n key v k h is = grind (arith, length-map, places-with_value, set-append_left)
 
   -- a table after an insertion
   pub IsTable-insert : (entries : Slab (Option T)) (keys before after : List ℕ)
@@ -259,45 +200,30 @@ module _ {T : Type 0} where
       → all_places (with_value entries key (Some v)) keys count
       ≡ slice_set (all_places entries keys count) n (Some v)
   places-insert entries keys before after key_room vacant_room count n key v t e read =
-      let h = within_keys entries keys n (next-in_range (places entries keys) before after n t.are_vacant e) in
-      all-with_value entries keys count n key (Some v) t.are_keys h (read_key keys n key h read)
+      grind (arith, within_keys, next-in_range, all-with_value, read_key)
 
   length-all : (entries : Slab (Option T)) (keys : List ℕ) (count : ℕ) → length keys ≤ count
       → length (all_places entries keys count) ≡ count
-  length-all entries keys count within =
-      let none : Option T = None in
-      omega (
-        arith,
-        within,
-        length-append (places entries keys) (replicate (count - length keys) none),
-        length-map keys (value_under_key entries),
-        length-replicate (count - length keys) none,
-      )
+  length-all entries keys count within = grind (arith, length-append, length-map, length-replicate)
 
   -- the empty number that comes next is one of the table's, has an entry, and no value
   pub next-within : (entries : Slab (Option T)) (keys before after : List ℕ) (key_room vacant_room count n : ℕ)
       (slots : List (Option T)) → IsTable entries keys before key_room vacant_room count
       → all_places entries keys count ≡ slots → before ≡ after ++ n ∷ [] → n < length slots
   next-within entries keys before after key_room vacant_room count n slots t is e =
-      let h = within_keys entries keys n (next-in_range (places entries keys) before after n t.are_vacant e) in
-      omega (arith, h, t.rooms.within, length-all entries keys count t.rooms.within, ap length is)
+      grind (arith, within_keys, next-in_range, length-all)
 
   pub next-present : (entries : Slab (Option T)) (keys before after : List ℕ) (key_room vacant_room count n key : ℕ)
       → IsTable entries keys before key_room vacant_room count → before ≡ after ++ n ∷ []
       → key ≡ slice_index_or keys n key → IsSome (get entries key)
   next-present entries keys before after key_room vacant_room count n key t e read =
-      let h = within_keys entries keys n (next-in_range (places entries keys) before after n t.are_vacant e) in
-      key_present entries keys n key t.are_keys h (read_key keys n key h read)
+      grind (arith, within_keys, next-in_range, key_present, read_key)
 
   pub next-vacant : (entries : Slab (Option T)) (keys before after : List ℕ) (key_room vacant_room count n : ℕ)
       (slots : List (Option T)) → IsTable entries keys before key_room vacant_room count
       → all_places entries keys count ≡ slots → before ≡ after ++ n ∷ [] → value_at slots n ≡ None
   next-vacant entries keys before after key_room vacant_room count n slots t is e =
-      let last : slice_index before (length after) ≡ n = rw e (get_or_push after n 0 (length after) refl) in
-      let longer : length before ≡ length after + 1 = ap length e ∙ length-append after (n ∷ []) in
-      ap (λ l. value_at l n) (sym is)
-      ∙ (value_at-filled (places entries keys) (count - length keys) n
-      ∙ rw last at (t.are_vacant.empty (length after) (omega arith)))
+      grind (arith, slice_index, get_or_push, length-append, value_at-filled)
 
   -- a table after a removal
   pub IsTable-remove : (entries : Slab (Option T)) (keys before : List ℕ) (key_room vacant_room count n key : ℕ)
@@ -322,9 +248,7 @@ module _ {T : Type 0} where
       → AreKeys entries keys → IsSome (value_at (all_places entries keys count) n) → key ≡ slice_index_or keys n key
       → all_places (with_value entries key v) keys count ≡ slice_set (all_places entries keys count) n v
   places-write entries keys count n key v k some read =
-      let was = used entries keys count n some in
-      let h = within_keys entries keys n (IsSome-in_range (places entries keys) n was) in
-      all-with_value entries keys count n key v k h (read_key keys n key h read)
+      grind (arith, used, within_keys, IsSome-in_range, all-with_value, read_key)
 
   -- a table after another value was put in the place of one
   pub IsTable-set : (entries : Slab (Option T)) (keys vacant : List ℕ) (key_room vacant_room count n key : ℕ) (v : T)
@@ -347,32 +271,13 @@ module _ {T : Type 0} where
   -- a key that had no entry is no key of the list
   fresh_differs : (entries : Slab (Option T)) (keys : List ℕ) (key : ℕ) → AreKeys entries keys
       → get entries key ≡ None → (i : ℕ) → i < length keys → slice_index keys i ≢ key
-  fresh_differs entries keys key k fresh i h same =
-      None-not_some (get entries (slice_index keys i)) (ap (get entries) same ∙ fresh) (k.present i h)
+  fresh_differs entries keys key k fresh i h same = grind arith
 
   -- one more entry, whose key is listed last
   pub AreKeys-push : (old new : Slab (Option T)) (keys : List ℕ) (key : ℕ) (v : Option T) → AreKeys old keys
       → get old key ≡ None → Updates old new key (Some v) → AreKeys new (keys ++ key ∷ [])
   AreKeys-push old new keys key v k fresh u =
-      let longer : length (keys ++ key ∷ []) ≡ length keys + 1 = length-append keys (key ∷ []) in
-      let kept : (i : ℕ) → i < length keys → slice_index (keys ++ key ∷ []) i ≡ slice_index keys i =
-      λ i within. get_or_append_left keys (key ∷ []) 0 i within in
-      let at_last : (i : ℕ) → i < length (keys ++ key ∷ []) → length keys ≤ i
-      → slice_index (keys ++ key ∷ []) i ≡ key = λ i within past. get_or_push keys key 0 i (omega arith) in
-      record {
-        present = λ i within. elim (cases_lt i (length keys)) [
-          | inl earlier ↦
-              rw (kept i earlier) (ap is_some
-              (u.others (slice_index keys i) (fresh_differs old keys key k fresh i earlier)) ∙ k.present i earlier)
-          | inr past ↦ rw (at_last i within past) (ap is_some u.changed)
-        ];
-        distinct = λ i j below within. λ same. elim (cases_lt j (length keys)) [
-          | inl earlier ↦ k.distinct i j below earlier (sym (kept i (omega arith)) ∙ (same ∙ kept j earlier))
-          | inr past ↦
-              fresh_differs old keys key k fresh i (omega arith)
-              (sym (kept i (omega arith)) ∙ (same ∙ at_last j within past))
-        ];
-      }
+      grind (arith, length-append, slice_index, get_or_append_left, get_or_push, is_some, fresh_differs)
 
   -- if no number that was used is empty, one is left that never was
   pub push-left : (entries : Slab (Option T)) (keys vacant : List ℕ) (key_room vacant_room count : ℕ)
@@ -380,34 +285,7 @@ module _ {T : Type 0} where
       → all_places entries keys count ≡ slots → length vacant ≡ 0 → value_count slots < length slots
       → length keys < count
   push-left entries keys vacant key_room vacant_room count slots t is none few =
-      omega (
-        arith,
-        few,
-        none,
-        t.are_vacant.count,
-        length-map keys (value_under_key entries),
-        value_count-filled (places entries keys) (count - length keys),
-        ap value_count is,
-        ap length is,
-        length-all entries keys count t.rooms.within,
-      )
-
-  pub push-within : (entries : Slab (Option T)) (keys : List ℕ) (count : ℕ) (slots : List (Option T))
-      → length keys < count → all_places entries keys count ≡ slots → length keys < length slots
-  push-within entries keys count slots less is =
-      omega (arith, less, ap length is, length-all entries keys count (omega (arith, less)))
-
-  pub push-vacant : (entries : Slab (Option T)) (keys : List ℕ) (count : ℕ) (slots : List (Option T))
-      → all_places entries keys count ≡ slots → value_at slots (length keys) ≡ None
-  push-vacant entries keys count slots is =
-      ap (λ l. value_at l (length keys)) (sym is)
-      ∙ (value_at-filled (places entries keys) (count - length keys) (length keys)
-      ∙ past (places entries keys) (length keys) (omega (arith, length-map keys (value_under_key entries))))
-    where
-      past : (list : List (Option T)) (n : ℕ) → length list ≤ n → value_at list n ≡ None
-      past [] n h = refl
-      past (o ∷ list) zero h = absurd (omega arith)
-      past (o ∷ list) (suc n) h = past list n (omega (arith, h))
+      grind (arith, length-map, value_count-filled, length-all)
 
   -- the place of one more key
   pub places-push : (old new : Slab (Option T)) (keys : List ℕ) (key : ℕ) (v : Option T) → AreKeys old keys
@@ -438,31 +316,9 @@ module _ {T : Type 0} where
       → places new more ≡ places old keys ++ Some v ∷ [] → length more ≡ length keys + 1
       → slab_len new ≡ slab_len old + 1 → new.capacity ≡ old.capacity → new_room ≡ key_room
       → IsTable new more after new_room vacant_room count
-  IsTable-push old new keys more before after key_room new_room vacant_room count v t less was none k is long entered room
-      same = record {
-        are_keys = k;
-        are_vacant = rw is (record {
-          empty = λ i h. absurd (omega (arith, h, none));
-          in_range = λ i h. absurd (omega (arith, h, none));
-          distinct = λ i j below within. absurd (omega (arith, below, within, none));
-          count =
-              omega (
-                arith,
-                was,
-                none,
-                t.are_vacant.count,
-                value_count-push (places old keys) v,
-                length-append (places old keys) (Some v ∷ []),
-              );
-        });
-        rooms = record {
-          within = omega (arith, less, long);
-          entered = omega (arith, entered, t.rooms.entered, long);
-          entries_fit = omega (arith, room, t.rooms.entries_fit);
-          keys_fit = omega (arith, same, t.rooms.keys_fit);
-          vacant_fit = t.rooms.vacant_fit;
-        };
-      }
+  IsTable-push old new keys more before after key_room new_room vacant_room count v t less was none k is long entered
+      room
+      same = grind (arith, value_count-push, length-append)
 
   pub all-push : (old new : Slab (Option T)) (keys more : List ℕ) (count : ℕ) (slots : List (Option T)) (v : T)
       → length keys < count → all_places old keys count ≡ slots → places new more ≡ places old keys ++ Some v ∷ []

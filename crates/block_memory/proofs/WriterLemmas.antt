@@ -31,11 +31,7 @@ pub words_behind : (before block behind : List ℤ) (len place count at many : �
     length before + len ≤ place → at ≡ place - (length before + len) → many ≡ count →
     take many (drop at behind) ≡ take count (drop place (before ++ block ++ behind))
 words_behind before block behind len place count at many size below at_is many_is =
-    let whole : length (before ++ block) ≡ length before + len = omega (arith, length-append before block, size) in
-    let there : place ≡ length (before ++ block) + at = omega (arith, whole, below, at_is) in
-    ap (λ n. take n (drop at behind)) many_is
-    ∙ sym (ap (λ n. take count (drop n (before ++ block ++ behind))) there
-    ∙ ap (take count) (drop-append-add (before ++ block) behind at))
+    grind (arith, length-append before block, drop-append-add (before ++ block) behind at)
 
 abbrev five_of : List (List ℤ) → List (List ℤ)
 five_of ws =
@@ -57,10 +53,7 @@ pub lent : (n : ℕ) (ws : List (List ℤ)) (a b c d e : Bor (List ℤ)) → n �
     d.now ≡ slice_index_or ws 3 [] → e.now ≡ slice_index_or ws 4 [] →
     contents (take n (a ∷ b ∷ c ∷ d ∷ e ∷ [])) ≡ ws
 lent n ws a b c d e long few first second third fourth fifth =
-    let shown : contents (a ∷ b ∷ c ∷ d ∷ e ∷ []) ≡ five_of ws = cc in
-    sym (take-map (λ (r : Bor (List ℤ)). r.now) n (a ∷ b ∷ c ∷ d ∷ e ∷ []))
-    ∙ (ap (take n) shown ∙ (ap (λ k. take k (five_of ws)) long
-    ∙ five ws few))
+    grind (arith, five_of ws, take-map (λ (r : Bor (List ℤ)). r.now) n (a ∷ b ∷ c ∷ d ∷ e ∷ []), five ws few)
 
 -- what stands at five places
 pub five_at : {T : Type 0} (d : T) (xs : List T) (a b c e f : T) → length xs ≤ 5 → a ≡ slice_index_or xs 0 d →
@@ -76,4 +69,4 @@ five_at d (x ∷ y ∷ z ∷ u ∷ v ∷ w ∷ xs) a b c e f h p q r s t = absur
 
 pub map_twice : {X Y Z : Type 0} (f : X → Y) (h : Y → Z) (xs : List X) → map h (map f xs) ≡ map (λ x. h (f x)) xs
 map_twice f h [] = refl
-map_twice f h (x ∷ xs) = ap (λ ys. h (f x) ∷ ys) (map_twice f h xs)
+map_twice f h (x ∷ xs) = grind (arith, map_twice f h xs)

@@ -1,3 +1,4 @@
+-- A writer changes only the words of its block, and what it answers is what the contract says.
 use Rattle.std.proofs.Common.{◌≡◌, [], ◌∷◌, length, map, take, drop, sym, ◌∙◌, ap, subst, arith}
 use Rattle.std.proofs.lemmas.List.{length-map}
 use Rattle.block_memory.specs.Writing.{IsApart, span_at, span_of, words_in}

@@ -1,3 +1,4 @@
+-- The loop moves one block after another to the lowest free words.
 use Rattle.std.proofs.Common.{◌∙◌, sym, ap, arith}
 use Rattle.block_memory.specs.Layout.{Layout, covered_of, covered_at}
 use Rattle.block_memory.proofs.PackLemmas.{IsPacking-inside, IsPacking-skip, IsPacking-moved}
@@ -8,26 +9,26 @@ use Rattle.block_memory.proofs.pack.pack_blocks.Goals as goal
 pub loop-packed-init : goal.loop-packed-init
 loop-packed-init g c =
     let begun =
-    is_begun c.args.blocks.now c.args.holes.now c.args.covered c.lowest_free-packed.result c.requires
+    is_begun c.requires
     c.lowest_free-packed.ensures in
     record { packing = begun.packing; few = omega arith }
 
 pub beginning_at-requires : goal.beginning_at-requires
 beginning_at-requires g c =
     let l = c.loop-packed in
-    IsPacking-inside c.args.blocks.now l.blocks l.packed l.place c.args.covered l.invariant.packing
+    IsPacking-inside l.invariant.packing
     c.loop-packed-test.true
 
 pub range-len-requires-clause-some : goal.range-len-requires-clause-some
-range-len-requires-clause-some g c = begins-some _ _ _ c.in-Some.ensures.found
+range-len-requires-clause-some g c = begins-some c.in-Some.ensures.found
 
 pub slide-moved-requires-clause-some : goal.slide-moved-requires-clause-some
-slide-moved-requires-clause-some g c = begins-some _ _ _ c.in-Some.ensures.found
+slide-moved-requires-clause-some g c = begins-some c.in-Some.ensures.found
 
 pub slide-moved-requires-clause-within : goal.slide-moved-requires-clause-within
 slide-moved-requires-clause-within g c =
     let l = c.loop-packed in
-    moved_within c.args.blocks.now l.blocks l.packed l.place c.args.covered c.in-Some.number l.packed
+    moved_within l.packed
     (covered_at l.blocks.slots c.in-Some.number) l.invariant.packing c.in-Some.ensures.found (omega arith)
     (omega arith)
 
@@ -49,7 +50,7 @@ loop-packed-smaller-in-Some g c =
     let l = c.loop-packed in
     let b = c.in-Some.ensures.found in
     let inside =
-    IsPacking-inside c.args.blocks.now l.blocks l.packed l.place c.args.covered l.invariant.packing
+    IsPacking-inside l.invariant.packing
     c.loop-packed-test.true in
     let long = c.range-len.ensures.len ∙ ap covered_of b.there in
     let size = ap (λ (now : Layout). now.size) c.slide-moved.ensures.moved in
@@ -70,7 +71,7 @@ pub overflow_add-moved : goal.overflow_add-moved
 overflow_add-moved g c =
     let l = c.loop-packed in
     let within =
-    moved_within c.args.blocks.now l.blocks l.packed l.place c.args.covered c.in-Some.number l.moved
+    moved_within l.moved
     c.slide-moved.result
     l.invariant.packing c.in-Some.ensures.found l.invariant.few c.slide-moved.ensures.few in
     omega (arith, within, c.beginning_at.ensures.in_memory)
@@ -81,8 +82,7 @@ loop-packed-preserved-in-Some g c =
     let long = c.range-len.ensures.len in
     record {
       packing =
-          IsPacking-moved c.args.blocks.now l.blocks c.slide-moved.new.self l.packed l.place c.args.covered
-          c.in-Some.number _ l.invariant.packing c.in-Some.ensures.found c.slide-moved.ensures.moved long;
+          IsPacking-moved _ l.invariant.packing c.in-Some.ensures.found c.slide-moved.ensures.moved long;
       few = omega (arith, l.invariant.few, c.slide-moved.ensures.few, long);
     }
 
@@ -91,7 +91,7 @@ loop-packed-preserved g c =
     let l = c.loop-packed in
     record {
       packing =
-          IsPacking-skip c.args.blocks.now l.blocks l.packed l.place c.args.covered l.invariant.packing
+          IsPacking-skip l.invariant.packing
           c.in-None.ensures.none;
       few = l.invariant.few;
     }
@@ -100,7 +100,7 @@ pub overflow_add-place-in-None : goal.overflow_add-place-in-None
 overflow_add-place-in-None g c =
     let l = c.loop-packed in
     let inside =
-    IsPacking-inside c.args.blocks.now l.blocks l.packed l.place c.args.covered l.invariant.packing
+    IsPacking-inside l.invariant.packing
     c.loop-packed-test.true in
     omega (arith, inside, c.beginning_at.ensures.in_memory)
 
@@ -108,7 +108,7 @@ pub loop-packed-smaller : goal.loop-packed-smaller
 loop-packed-smaller g c =
     let l = c.loop-packed in
     let inside =
-    IsPacking-inside c.args.blocks.now l.blocks l.packed l.place c.args.covered l.invariant.packing
+    IsPacking-inside l.invariant.packing
     c.loop-packed-test.true in
     omega (arith, inside)
 

@@ -1,3 +1,4 @@
+-- A block that slides down is the same block at a lower place.
 use Rattle.std.proofs.Common.{is_some, sym, ap, ◌∙◌, arith}
 use Rattle.block_memory.specs.Layout.{layout_after_move}
 use Rattle.block_memory.proofs.FreeLemmas.{has_room}

@@ -1,3 +1,4 @@
+-- A block that is put is there, and no other block changes.
 use Rattle.std.proofs.Common.{◌+◌, ◌≤◌, vec_capacity, length, Some, ap, ◌∙◌, refl, arith}
 use Rattle.std.proofs.lemmas.List.{length-set}
 use Rattle.block_memory.specs.Layout.{with_slot}
@@ -16,9 +17,7 @@ after : (g : Over) (c : After-mark_start g) →
 after g c =
     let here = c.self.inside in
     let front = c.len-front.ensures in
-    after_put (length here.spans) here.words.items c.lengthen.new.list.items c.write_words.new.region here.starts.items
-    c.mark_start.new.starts.items here.spans c.insert-number.result c.args.owner c.args.place
-    (length c.args.words.now) c.args.words.now (spans_of _ _ _ _ _ _ _ c.self.invariant)
+    after_put c.args.owner (spans_of c.self.invariant)
     (rw front at c.lengthen.ensures.lengthened) (rw (← c.self.view_is) at c.requires.bare) refl
     (rw (c.deref_mut.ensures.value, front) at c.write_words.ensures)
     c.mark_start.ensures.marked c.insert-number.ensures.in_range
@@ -35,9 +34,8 @@ invariant_of-self g c =
     omega (arith, c.lengthen.ensures.capacity, c.self.invariant.words_room) in
     let starts_room : here.size ≤ vec_capacity c.mark_start.new.starts =
     omega (arith, c.mark_start.ensures.capacity, c.self.invariant.starts_room) in
-    rw (words, c.insert-number.ensures.inserted, c.len-front.ensures) (are_blocks (length here.spans) here.words.items
-    c.lengthen.new.list.items c.write_words.new.region c.mark_start.new.starts.items _ here.size
-    (length here.spans + c.args.place + length c.args.words.now) _ _ (length-set here.spans c.insert-number.result _)
+    rw (words, c.insert-number.ensures.inserted, c.len-front.ensures)
+    (are_blocks (length-set here.spans c.insert-number.result _)
     (after g (goal.at.invariant_of-self g c).After-mark_start).are_spans
     (rw c.len-front.ensures at c.lengthen.ensures.lengthened) long c.self.invariant.few (omega (arith, fits)) room
     starts_room)

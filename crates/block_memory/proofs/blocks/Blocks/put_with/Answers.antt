@@ -1,3 +1,4 @@
+-- A block that a writer fills is there with what it wrote, and no other block changes.
 use Rattle.std.proofs.Common.{◌≡◌, ℤ, ◌+◌, ◌≤◌, vec_capacity, List, length, take, drop, map, Some, refl, sym, ap, ◌∙◌}
 use Rattle.std.proofs.Common.{subst, arith}
 use Rattle.std.proofs.Math.Nat.{le-max_right}
@@ -34,7 +35,7 @@ now : (g : Over) (c : goal.After-lengthen g) →
 now g c =
     let here = c.self.inside in
     longer (length here.spans) here.words.items c.lengthen.new.list.items here.starts.items here.spans
-    (length here.spans + c.args.place + c.args.len) (spans_of _ _ _ _ _ _ _ c.self.invariant)
+    (length here.spans + c.args.place + c.args.len) (spans_of c.self.invariant)
     (rw c.len-front.ensures at c.lengthen.ensures.lengthened)
 
 pub write_lent-written-requires-clause-apart : goal.write_lent-written-requires-clause-apart
@@ -46,7 +47,7 @@ write_lent-written-requires-clause-apart g c =
     rw c.len-front.ensures (subst (λ (ws : List ℤ).
     All (λ id. IsApart (length ws) (length here.spans + c.args.place) c.args.len (span_at here.spans id))
     c.args.lent.now) (sym c.deref_mut.ensures.value)
-    (λ k d within. span_apart (length here.spans) c.lengthen.new.list.items here.starts.items here.spans _ c.args.place
+    (λ k d within. span_apart _ c.args.place
     c.args.len after.are_spans (bare (slice_index_or c.args.lent.now k d))))
 
 pub write_lent-written-requires-clause-can : goal.write_lent-written-requires-clause-can
@@ -92,10 +93,8 @@ after : (g : Over) (c : goal.After-mark_start g) →
     (take c.args.len (drop (length c.self.inside.spans + c.args.place) c.write_lent-written.new.words))
 after g c size =
     let here = c.self.inside in
-    after_put (length here.spans) here.words.items c.lengthen.new.list.items c.write_lent-written.new.words
-    here.starts.items c.mark_start.new.starts.items here.spans c.insert-number.result c.args.owner c.args.place
-    c.args.len (take c.args.len (drop (length here.spans + c.args.place) c.write_lent-written.new.words))
-    (spans_of _ _ _ _ _ _ _ c.self.invariant) (rw c.len-front.ensures at c.lengthen.ensures.lengthened)
+    after_put c.args.owner
+    (spans_of c.self.invariant) (rw c.len-front.ensures at c.lengthen.ensures.lengthened)
     (rw (← c.self.view_is) at c.requires.bare) (sym size)
     (rw (c.deref_mut.ensures.value, c.len-front.ensures) at c.write_lent-written.ensures.written)
     c.mark_start.ensures.marked c.insert-number.ensures.in_range
@@ -114,9 +113,8 @@ invariant_of-self g c =
     omega (arith, c.lengthen.ensures.capacity, c.self.invariant.words_room) in
     let starts_room : here.size ≤ vec_capacity c.mark_start.new.starts =
     omega (arith, c.mark_start.ensures.capacity, c.self.invariant.starts_room) in
-    rw (words, c.insert-number.ensures.inserted, c.len-front.ensures) (are_blocks (length here.spans)
-    here.words.items c.lengthen.new.list.items c.write_lent-written.new.words c.mark_start.new.starts.items _ here.size
-    (length here.spans + c.args.place + c.args.len) _ _ (length-set here.spans c.insert-number.result _)
+    rw (words, c.insert-number.ensures.inserted, c.len-front.ensures)
+    (are_blocks (length-set here.spans c.insert-number.result _)
     (after g at.After-mark_start (long g at.After-write_lent-written)).are_spans
     (rw c.len-front.ensures at c.lengthen.ensures.lengthened) size c.self.invariant.few (omega (arith, fits)) room
     starts_room)

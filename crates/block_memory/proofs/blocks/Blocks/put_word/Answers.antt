@@ -1,3 +1,4 @@
+-- A block of one word that is put is there, and no other block changes.
 use Rattle.std.proofs.Common.{rules, ◌≡◌, ◌+◌, ◌≤◌, vec_capacity, length, Some, slice_set, ap, ◌∙◌, refl, arith}
 use Rattle.std.proofs.lemmas.List.{length-set}
 use Rattle.block_memory.specs.Layout.{with_slot}
@@ -25,7 +26,7 @@ after g c =
     let here = c.self.inside in
     after_word (length here.spans) here.words.items c.lengthen.new.list.items c.write_words.new.region
     here.starts.items here.spans c.insert_with-number.result c.args.owner c.args.word.now
-    (spans_of _ _ _ _ _ _ _ c.self.invariant) refl c.lengthen.ensures.lengthened
+    (spans_of c.self.invariant) refl c.lengthen.ensures.lengthened
     (rw c.deref_mut.ensures.value at c.write_words.ensures) c.requires.one c.insert_with-number.ensures.in_range
 
 pub invariant_of-self : goal.invariant_of-self
@@ -39,9 +40,8 @@ invariant_of-self g c =
     let room : length here.spans + here.size ≤ vec_capacity c.lengthen.new.list =
     omega (arith, c.lengthen.ensures.capacity, c.self.invariant.words_room) in
     let there = c.insert_with-number.ensures.in_range in
-    rw (words, inserted g at.After-write_words) (are_blocks (length here.spans) here.words.items
-    c.lengthen.new.list.items c.write_words.new.region here.starts.items _ here.size (c.insert_with-number.result + 1)
-    _ _ (length-set here.spans c.insert_with-number.result _) (after g at.After-write_words).are_spans
+    rw (words, inserted g at.After-write_words) (are_blocks (length-set here.spans c.insert_with-number.result _)
+    (after g at.After-write_words).are_spans
     c.lengthen.ensures.lengthened long c.self.invariant.few (omega (arith, there)) room
     c.self.invariant.starts_room)
 

@@ -1,3 +1,4 @@
+-- A block that is removed is there no more, and no other block changes.
 use Rattle.std.proofs.Common.{◌∙◌, ap, sym, is_some, None, length, refl}
 use Rattle.block_memory.specs.Layout.{Layout, place_at, covered_at, words_at, with_slot}
 use Rattle.block_memory.proofs.Lists.{IsSome-in_range}
@@ -27,8 +28,8 @@ pub returns-clause-words : goal.returns-clause-words
 returns-clause-words g c =
     let here = c.self.inside in
     c.freed.ensures.words
-    ∙ (sym (length-words_of-span (length here.spans) here.words.items here.starts.items here.spans c.args.number
-    c.remove-span.result (spans_of _ _ _ _ _ _ _ c.self.invariant) c.remove-span.ensures.value)
+    ∙ (sym (length-words_of-span c.args.number
+    c.remove-span.result (spans_of c.self.invariant) c.remove-span.ensures.value)
     ∙ ap (λ (l : Layout). length (words_at l.slots c.args.number)) c.self.view_is)
 
 pub returns-clause-place : goal.returns-clause-place

@@ -1,3 +1,4 @@
+-- A block that is rewritten has the new words, and no other block changes.
 use Rattle.std.proofs.Common.{◌≡◌, length, ap, ◌∙◌, refl, arith}
 use Rattle.block_memory.specs.Layout.{layout_after_rewrite}
 use Rattle.block_memory.proofs.Lists.{items_after_write}
@@ -13,9 +14,9 @@ long g c =
     let here = c.self.inside in
     let same = rw (← c.self.view_is) at c.requires.same_length in
     let size =
-    length-words_of-span (length here.spans) here.words.items here.starts.items here.spans c.args.number
+    length-words_of-span c.args.number
     c.value-span.result.now
-    (spans_of _ _ _ _ _ _ _ c.self.invariant) c.value-span.ensures in
+    (spans_of c.self.invariant) c.value-span.ensures in
     omega (arith, same, size)
 
 pub write_words-requires : goal.write_words-requires
@@ -33,8 +34,7 @@ after g c size =
     let here = c.self.inside in
     let s = c.value-span.result.now in
     let clear = rw (← c.self.view_is) at c.requires.clear in
-    after_rewrite (length here.spans) here.words.items c.write_words.new.region here.starts.items here.spans
-    c.args.number s c.args.words.now (spans_of _ _ _ _ _ _ _ c.self.invariant) c.value-span.ensures
+    after_rewrite s (spans_of c.self.invariant) c.value-span.ensures
     (rw c.deref_mut.ensures.value at c.write_words.ensures) size
     (rw (
       ← place_by_span (length here.spans) here.words.items here.spans c.args.number s c.value-span.ensures,

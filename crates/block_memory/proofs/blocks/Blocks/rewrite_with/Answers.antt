@@ -1,3 +1,4 @@
+-- A block whose words a writer rewrites keeps its place, and no other block changes.
 use Rattle.std.proofs.Common.{◌≡◌, ℤ, ◌-◌, List, [], length, map, take, drop, ap, ◌∙◌, refl, sym, subst, arith}
 use Rattle.std.proofs.lemmas.List.{nil_from_length}
 use Rattle.std.specs.Prelude.{MatchResult, slice_index_or}
@@ -33,7 +34,7 @@ write_lent-requires-clause-apart g c k d below =
     subst (λ (ws : List ℤ). IsApart (length ws) s.place s.len (span_at here.spans (slice_index_or c.args.lent.now k d)))
     (sym c.deref_mut.ensures.value)
     (other_apart (length here.spans) here.words.items here.starts.items here.spans c.args.number
-    (slice_index_or c.args.lent.now k d) s (spans_of _ _ _ _ _ _ _ c.self.invariant) c.value-span.ensures
+    (slice_index_or c.args.lent.now k d) s (spans_of c.self.invariant) c.value-span.ensures
     (c.requires.others k d below) (clear g at.After-value-span))
 
 -- the words that are lent, and those of the block
@@ -87,8 +88,7 @@ after : (g : Over) (c : After-write_lent g) →
 after g c =
     let here = c.self.inside in
     let s = c.value-span.result.now in
-    after_rewrite (length here.spans) here.words.items c.write_lent.new.words here.starts.items here.spans
-    c.args.number s (take s.len (drop s.place c.write_lent.new.words)) (spans_of _ _ _ _ _ _ _ c.self.invariant)
+    after_rewrite s (spans_of c.self.invariant)
     c.value-span.ensures (rw c.deref_mut.ensures.value at c.write_lent.ensures.written) (sym (long g c))
     (clear g (goal.at.After-write_lent g c).After-value-span)
 

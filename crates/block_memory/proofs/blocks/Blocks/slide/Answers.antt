@@ -1,3 +1,4 @@
+-- A block that slides has its words at its new place, and no other block changes.
 use Rattle.std.proofs.Common.{◌≡◌, ◌+◌, ◌≤◌, vec_capacity, length, take, drop, ap, ◌∙◌, slice_set, refl, arith}
 use Rattle.std.proofs.lemmas.List.{length-set}
 use Rattle.block_memory.specs.Layout.{covered_at, layout_after_move}
@@ -15,8 +16,8 @@ whole : (g : Over) (c : After-value g) → (length c.self.inside.spans ≤ c.val
     ≡ c.value.result.now.len)
 whole g c =
     let here = c.self.inside in
-    in_region (length here.spans) here.words.items here.starts.items here.spans c.args.number c.value.result.now
-    (spans_of _ _ _ _ _ _ _ c.self.invariant) c.value.ensures (rw (← c.self.view_is) at c.requires.some)
+    in_region c.args.number c.value.result.now
+    (spans_of c.self.invariant) c.value.ensures (rw (← c.self.view_is) at c.requires.some)
 
 after : (g : Over) (c : After-mark_start g) →
     covered_at (slots_from (length c.self.inside.spans) c.self.inside.words.items c.self.inside.spans) c.args.number
@@ -30,7 +31,7 @@ after g c size =
     let here = c.self.inside in
     after_move (length here.spans) here.words.items c.lengthen.new.list.items c.move_words-moved.new.region
     here.starts.items c.mark_start.new.starts.items here.spans c.args.number c.args.to c.value.result.now
-    (spans_of _ _ _ _ _ _ _ c.self.invariant) c.value.ensures
+    (spans_of c.self.invariant) c.value.ensures
     (rw c.len-front.ensures at c.lengthen.ensures.lengthened) (rw size at (rw (← c.self.view_is) at c.requires.clear))
     (rw (c.deref_mut.ensures.value, c.len-front.ensures) at c.move_words-moved.ensures.written)
     c.mark_start.ensures.marked
@@ -57,9 +58,7 @@ invariant_of-self g c =
     omega (arith, c.lengthen.ensures.capacity, c.self.invariant.words_room) in
     let starts_room : here.size ≤ vec_capacity c.mark_start.new.starts =
     omega (arith, c.mark_start.ensures.capacity, c.self.invariant.starts_room) in
-    rw (words, c.set.ensures, c.len-front.ensures) (are_blocks (length here.spans) here.words.items
-    c.lengthen.new.list.items moved.new.region c.mark_start.new.starts.items _ here.size
-    (length here.spans + c.args.to + c.value.result.now.len) _ _ (length-set here.spans c.args.number _)
+    rw (words, c.set.ensures, c.len-front.ensures) (are_blocks (length-set here.spans c.args.number _)
     (after g at.After-mark_start size).are_spans (rw c.len-front.ensures at c.lengthen.ensures.lengthened) long
     c.self.invariant.few (omega (arith, fits)) room starts_room)
 

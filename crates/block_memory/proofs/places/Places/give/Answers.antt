@@ -1,3 +1,4 @@
+-- A range that is given back is among the holes, and no block covers it.
 use Rattle.std.proofs.Common.{rules, ◌<◌, length, ◌∙◌, arith}
 use Rattle.block_memory.specs.Places.{slots_of}
 use Rattle.block_memory.proofs.PlacesLemmas.{length-whole, none_free-there, given_to_holes, kept_next}

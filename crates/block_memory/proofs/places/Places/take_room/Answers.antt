@@ -3,5 +3,5 @@ use Rattle.block_memory.proofs.places.Places.take_room.Goals as goal
 
 pub returns-in-Some-clause-room : goal.returns-in-Some-clause-room
 returns-in-Some-clause-room g c =
-    room_of c.args.blocks.now c.args.self.now c.take.new.self c.args.covered c.in-Some.place c.args.len
+    room_of
     c.requires.region c.in-Some.ensures.taken

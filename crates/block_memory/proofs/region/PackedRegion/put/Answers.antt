@@ -1,3 +1,4 @@
+-- A block that is put lies in words that were free.
 use Rattle.std.proofs.Common.{rules, w64, Fits, length, sym, ap, ◌∙◌, arith}
 use Rattle.block_memory.specs.Content.{used_words}
 use Rattle.block_memory.proofs.RegionLemmas.{HasRoom-bare, IsPackedRegion-put, content_of-put, covered_fits}
@@ -11,13 +12,13 @@ take_room-place-requires-clause-fits g c =
       arith,
       room,
       c.self.invariant.counted,
-      covered_fits here.blocks here.places here.covered here.used c.self.invariant.region c.self.invariant.counted,
+      covered_fits here.used c.self.invariant.region c.self.invariant.counted,
     )
 
 pub put-number-requires-clause-bare : goal.put-number-requires-clause-bare
 put-number-requires-clause-bare g c =
     let room = c.take_room-place in
-    HasRoom-bare room.new.blocks room.new.self c.self.inside.covered room.result (length c.args.words.now)
+    HasRoom-bare
     room.ensures.room
 
 pub overflow_add-self-2 : goal.overflow_add-self-2
@@ -31,7 +32,7 @@ overflow_add-self-2 g c =
       room,
       c.self.invariant.counted,
       c.size-size.ensures,
-      covered_fits here.blocks here.places here.covered here.used c.self.invariant.region c.self.invariant.counted,
+      covered_fits here.used c.self.invariant.region c.self.invariant.counted,
     )
 
 pub invariant_of-self : goal.invariant_of-self
@@ -40,7 +41,7 @@ invariant_of-self g c =
     let room = c.take_room-place in
     let put = c.put-number in
     let fits = rw (← c.self.view_is) at c.requires.room in
-    rw put.ensures.put (IsPackedRegion-put room.new.blocks room.new.self here.covered here.used put.result
+    rw put.ensures.put (IsPackedRegion-put here.used put.result
     (record { owner = c.args.owner; place = room.result; len = length c.args.words.now; words = c.args.words.now })
     room.ensures.room (c.self.invariant.counted ∙ ap used_words (sym room.ensures.content)) put.ensures.in_range
     put.ensures.vacant (omega (arith, fits, c.self.invariant.counted, room.ensures.size)) (omega arith))

@@ -1,3 +1,4 @@
+-- A block that a writer fills lies in words that were free.
 use Rattle.std.proofs.Common.{rules, w64, Fits, ◌≡◌, ℕ, ℤ, ◌+◌, ◌≤◌, List, length, map, sym, ap, ◌∙◌, subst, arith}
 use Rattle.std.specs.Prelude.{MatchResult}
 use Rattle.block_memory.specs.Content.{words_at, used_words}
@@ -7,8 +8,7 @@ use Rattle.block_memory.specs.Placing.{IsPlacedWith}
 use Rattle.block_memory.proofs.RegionLemmas.{HasRoom-bare, IsPackedRegion-put, covered_fits, lent_lists, placed_with}
 use Rattle.block_memory.proofs.region.PackedRegion.put_with.Given.{Over}
 use Rattle.block_memory.proofs.region.PackedRegion.put_with.Goals as goal
-use Rattle.block_memory.proofs.region.PackedRegion.put_with.Goals.{After-take_room-place, After-new-id, in-Ok}
-use Rattle.block_memory.proofs.region.PackedRegion.put_with.Goals.{in-Err}
+use Rattle.block_memory.proofs.region.PackedRegion.put_with.Goals.{After-take_room-place, After-new-id, in-Ok, in-Err}
 
 -- the blocks have moved, and are those of the memory
 same : (g : Over) (c : goal.After-take_room-place g) →
@@ -36,13 +36,13 @@ take_room-place-requires-clause-fits g c =
       arith,
       room,
       c.self.invariant.counted,
-      covered_fits here.blocks here.places here.covered here.used c.self.invariant.region c.self.invariant.counted,
+      covered_fits here.used c.self.invariant.region c.self.invariant.counted,
     )
 
 pub put_with-number-requires-clause-bare : goal.put_with-number-requires-clause-bare
 put_with-number-requires-clause-bare g c =
     let room = c.take_room-place in
-    HasRoom-bare room.new.blocks room.new.self c.self.inside.covered room.result c.args.len room.ensures.room
+    HasRoom-bare room.ensures.room
 
 pub put_with-number-requires-clause-can : goal.put_with-number-requires-clause-can
 put_with-number-requires-clause-can g c =
@@ -60,7 +60,7 @@ overflow_add-self-2 g c =
       room,
       c.self.invariant.counted,
       c.size-size.ensures,
-      covered_fits here.blocks here.places here.covered here.used c.self.invariant.region c.self.invariant.counted,
+      covered_fits here.used c.self.invariant.region c.self.invariant.counted,
     )
 
 pub invariant_of-self : goal.invariant_of-self
@@ -73,7 +73,7 @@ invariant_of-self g c =
     record { owner = c.args.owner; place = room.result; len = c.args.len; words = put.0 } in
     subst (λ (k : ℕ). IsPackedRegion c.put_with-number.new.self room.new.self (here.covered + c.args.len)
     (here.used + k)) put.1.0
-    (rw put.1.2 (IsPackedRegion-put room.new.blocks room.new.self here.covered here.used c.put_with-number.result.0
+    (rw put.1.2 (IsPackedRegion-put here.used c.put_with-number.result.0
     block room.ensures.room (c.self.invariant.counted ∙ ap used_words (sym room.ensures.content))
     c.put_with-number.ensures.in_range c.put_with-number.ensures.vacant (omega (arith, within, put.1.0))
     (omega (arith, put.1.0))))
@@ -84,9 +84,8 @@ with_words : (g : Over) (c : goal.After-new-id g) (is : List ℤ → Type 0) →
     c.args.len is
 with_words g c is so =
     let e = c.put_with-number.ensures in
-    rw (c.new-id.ensures, e.put.1.2) (placed_with c.take_room-place.new.blocks.slots c.args.self.now.content
-    c.put_with-number.result.0 c.args.len
-    (record { owner = c.args.owner; place = c.take_room-place.result; len = c.args.len; words = e.put.0 }) is
+    rw (c.new-id.ensures, e.put.1.2) (placed_with c.take_room-place.new.blocks.slots
+    (record { owner = c.args.owner; place = c.take_room-place.result; len = c.args.len; words = e.put.0 })
     (c.take_room-place.ensures.content ∙ ap (λ (m : RegionState). m.content) c.self.view_is) e.in_range e.vacant
     e.put.1.0 so)
 

@@ -1,3 +1,4 @@
+-- A block of one word that is put lies in a word that was free.
 use Rattle.std.proofs.Common.{◌≡◌, ℤ, List, length, map, sym, ap, subst, arith}
 use Rattle.std.specs.Prelude.{MatchResult}
 use Rattle.block_memory.specs.Content.{words_at}
@@ -24,7 +25,7 @@ invariant_of-self g c =
     let here = c.self.inside in
     let put = c.put_word_with-number.ensures.put in
     let room = rw (← c.self.view_is) at c.requires.room in
-    rw put.1.2 (IsPackedRegion-word here.blocks here.places here.covered here.used c.put_word_with-number.result.0
+    rw put.1.2 (IsPackedRegion-word c.put_word_with-number.result.0
     c.args.owner put.0 c.self.invariant put.1.0 c.put_word_with-number.ensures.in_range
     c.put_word_with-number.ensures.vacant (omega (arith, room, c.self.invariant.counted)))
 
@@ -34,8 +35,8 @@ with_words : (g : Over) (c : goal.After-new-id g) (is : List ℤ → Type 0) →
     1 is
 with_words g c is so =
     let e = c.put_word_with-number.ensures in
-    rw (c.new-id.ensures, e.put.1.2) (placed_with c.self.inside.blocks.slots c.args.self.now.content
-    c.put_word_with-number.result.0 1 (record { owner = c.args.owner; place = 0; len = 0; words = e.put.0 }) is
+    rw (c.new-id.ensures, e.put.1.2) (placed_with c.self.inside.blocks.slots
+    (record { owner = c.args.owner; place = 0; len = 0; words = e.put.0 })
     (same g c) e.in_range e.vacant e.put.1.0 so)
 
 -- what the writer answered

@@ -1,3 +1,4 @@
+-- A block that a writer rewrites keeps its place among the others.
 use Rattle.std.proofs.Common.{◌≡◌, ℕ, ℤ, List, [], length, map, sym, ◌∙◌, ap, subst, refl}
 use Rattle.std.specs.Prelude.{MatchResult}
 use Rattle.block_memory.specs.Content.{words_at}
@@ -6,14 +7,14 @@ use Rattle.block_memory.specs.Region.{RegionState}
 use Rattle.block_memory.proofs.RegionLemmas.{CanRewrite, can_rewrite, lent_lists, lent_words}
 use Rattle.block_memory.proofs.region.PackedRegionLendingMemory.rewrite_with.Given.{Over}
 use Rattle.block_memory.proofs.region.PackedRegionLendingMemory.rewrite_with.Goals as goal
-use Rattle.block_memory.proofs.region.PackedRegionLendingMemory.rewrite_with.Goals.{After-number, After-rewrite_with}
+use Rattle.block_memory.proofs.region.PackedRegionLendingMemory.rewrite_with.Goals.{After-number}
 
 -- words can be written over those of the block, if they are as many
 can : (g : Over) (c : After-number g) (words : List ℤ) →
     length words ≡ length (slot_words_at c.self.inside.blocks.slots c.number.result) →
     CanRewrite c.self.inside.blocks c.self.inside.places c.self.inside.covered c.number.result words
 can g c words same =
-    can_rewrite c.self.inside.blocks c.self.inside.places c.self.inside.covered c.number.result words
+    can_rewrite
     c.self.invariant.region (rw c.number.ensures (rw (← c.self.view_is) at c.requires.live))
     (same ∙ ap length (lent_words c.self.inside.blocks.slots c.number.result))
 

@@ -7,7 +7,7 @@ use Rattle.block_memory.proofs.region.PackedRegionRewritableMemory.rewrite.Goals
 can : (g : Over) (c : After-number g) →
     CanRewrite c.self.inside.blocks c.self.inside.places c.self.inside.covered c.number.result c.args.words.now
 can g c =
-    can_rewrite c.self.inside.blocks c.self.inside.places c.self.inside.covered c.number.result c.args.words.now
+    can_rewrite
     c.self.invariant.region (rw c.number.ensures (rw (← c.self.view_is) at c.requires.live))
     (rw c.number.ensures (rw (← c.self.view_is) at c.requires.same_length))
 

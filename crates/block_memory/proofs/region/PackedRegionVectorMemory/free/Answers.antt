@@ -1,3 +1,4 @@
+-- After a block was freed, its words are free, and all others are as they were.
 use Rattle.block_memory.proofs.RegionLemmas.{IsFreed, is_freed, content_of-remove}
 use Rattle.block_memory.proofs.region.PackedRegionVectorMemory.free.Given.{Over}
 use Rattle.block_memory.proofs.region.PackedRegionVectorMemory.free.Goals as goal

@@ -1,3 +1,4 @@
+-- What is inserted lies at a number that was vacant.
 use Rattle.std.proofs.Common.{◌≡◌, ◌∙◌, ap, slice_set, Some, arith, length, vec_capacity}
 use Rattle.block_memory.proofs.TableLemmas.{IsTable-insert, places-insert, next-within, next-present, next-vacant}
 use Rattle.block_memory.proofs.TableLemmas.{IsTable-push, all-push, push-left}

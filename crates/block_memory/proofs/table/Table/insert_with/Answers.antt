@@ -1,3 +1,4 @@
+-- What is made for a vacant number lies at this number.
 use Rattle.std.proofs.Common.{◌≡◌, ◌∙◌, ap, slice_set, Some, arith, length, vec_capacity}
 use Rattle.block_memory.proofs.TableLemmas.{IsTable-insert, places-insert, next-within, next-present, next-vacant}
 use Rattle.block_memory.proofs.TableLemmas.{IsTable-push, all-push, push-left}
