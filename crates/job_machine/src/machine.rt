@@ -10,6 +10,7 @@ ghost use Rattle.job_steps.specs.Standings.{Collected, of_job, first_queue, exec
 ghost use Rattle.job_steps.specs.Standings.{used_words, granted_words};
 ghost use Rattle.job_steps.specs.States.{ruled};
 ghost use Rattle.job_slots.specs.Answers.{after_stepped};
+ghost use Rattle.job_slots.specs.declared.answer.Compare.TheVariants.{Number};
 ghost use Rattle.job_slots.specs.Slots.{status_of};
 ghost use Rattle.job_machine.specs.Machines.{queue_of, machine_after, Leads, admission_in, BeginsIn, after_begun};
 ghost use Rattle.job_machine.specs.Machines.{FinishesIn, after_finished, is_flying, is_over, told};
@@ -26,7 +27,7 @@ use crate::setting::{
 use job_memory::JobMemory;
 use job_memory::laws::changes_join;
 use job_slots::laws::{new_is_shown, others_are_shown, recalled_is_shown, shown_is_alone};
-use job_slots::{Begun, Finished, Slot, Status, Stepped, Turn};
+use job_slots::{Begun, Compare, Finished, Slot, Status, Stepped, Turn};
 use job_steps::laws::{
     admissions_pass_once, admitted_have_room, closed_change_nothing, events_change_their_job,
     leads_join, missing_are_closed, others_pass_nobody, passes_are_few,
@@ -229,31 +230,17 @@ impl<A: Allocator> Machine<A> {
 
     /// Commits a step that was computed, if it is the one of its job that has begun, with the same instruction and
     /// operands. The desk comes back.
-    #[tactic(auto, using(crate::proofs::TurnLemmas::is_lent, crate::proofs::TurnLemmas::numbers_left))]
     pub fn finish(&mut self, filled: Filled<A>) -> (Finished, Desk<A>)
         ensures answer { FinishesIn filled (of_job filled.job self.old.tasks)
             (of_job filled.job self.old.standings) result.0 }
         ensures desk { result.1 ≡ filled.words }
         ensures state { self.new ≡ after_finished result.0 self.old (machine_after (Finish filled.job) self.old) }
     {
-        turn_laws();
-        shown_is_alone();
-        let _used = self.blocks.used();
-        let job = filled.job();
-        let Some(place) = self.place(job) else {
-            return (Finished::Stale, filled.into_desk());
-        };
-        let turn = Turn {
-            rule: self.rule,
-            number: job,
-        };
-        let slot = &mut self.slots[place];
-        slot.finish(turn, job_at(&self.jobs, place), &mut self.blocks, filled)
+        self.finish_of(filled, Compare::Operands)
     }
 
     /// Commits a step that was computed, as `finish` does, but compares no operands: the step is known to ask what its
     /// job asks at its number. `Stale` exactly if no step of this number is in flight.
-    #[tactic(auto, using(crate::proofs::TurnLemmas::is_lent, crate::proofs::TurnLemmas::numbers_left))]
     pub fn finish_own(&mut self, filled: Filled<A>) -> (Finished, Desk<A>)
         requires { asked_in self.old.tasks filled.job filled.step ≡ Some filled.question }
         ensures answer { FinishesIn filled (of_job filled.job self.old.tasks)
@@ -261,6 +248,18 @@ impl<A: Allocator> Machine<A> {
         ensures desk { result.1 ≡ filled.words }
         ensures state { self.new ≡ after_finished result.0 self.old (machine_after (Finish filled.job) self.old) }
     {
+        self.finish_of(filled, Compare::Number)
+    }
+
+    /// The same, by what is compared.
+    #[tactic(auto, using(crate::proofs::TurnLemmas::is_lent, crate::proofs::TurnLemmas::numbers_left))]
+    fn finish_of(&mut self, filled: Filled<A>, compare: Compare) -> (Finished, Desk<A>)
+        requires { compare ≡ Number → asked_in self.old.tasks filled.job filled.step ≡ Some filled.question }
+        ensures answer { FinishesIn filled (of_job filled.job self.old.tasks)
+            (of_job filled.job self.old.standings) result.0 }
+        ensures desk { result.1 ≡ filled.words }
+        ensures state { self.new ≡ after_finished result.0 self.old (machine_after (Finish filled.job) self.old) }
+    {
         turn_laws();
         shown_is_alone();
         let _used = self.blocks.used();
@@ -273,7 +272,13 @@ impl<A: Allocator> Machine<A> {
             number: job,
         };
         let slot = &mut self.slots[place];
-        slot.finish_own(turn, job_at(&self.jobs, place), &mut self.blocks, filled)
+        slot.finish(
+            turn,
+            job_at(&self.jobs, place),
+            &mut self.blocks,
+            filled,
+            compare,
+        )
     }
 
     /// Carries out the next instruction of a job in one go, with the desk's room for its results. Takes no memory.

@@ -1,4 +1,4 @@
-//! What the halves of a step answer, and a step in one go.
+//! What the halves of a step take and answer, and a step in one go.
 
 use job_steps::{Desk, Ticket};
 use std::alloc::Allocator;
@@ -14,6 +14,15 @@ pub enum Begun<A: Allocator> {
     NotReady(Desk<A>),
     /// The desk has fewer words than the job. Nothing changed.
     SmallDesk(Desk<A>),
+}
+
+/// What a finish compares of a step that was computed with the step that its job awaits.
+#[derive(Clone, Copy)]
+pub enum Compare {
+    /// Its number alone: the step is known to ask what its job's run asks at that number.
+    Number,
+    /// Its number, its instruction and its operands.
+    Operands,
 }
 
 /// What a finish answers.

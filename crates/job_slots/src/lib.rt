@@ -20,7 +20,7 @@ mod status;
 mod ticket;
 mod turn;
 
-pub use answer::{Begun, Finished, Stepped};
+pub use answer::{Begun, Compare, Finished, Stepped};
 pub use slot::Slot;
 pub use status::Status;
 pub use turn::Turn;

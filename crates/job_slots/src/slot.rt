@@ -20,6 +20,7 @@ ghost use Rattle.job_slots.specs.Executions.{IsMade};
 ghost use Rattle.job_slots.specs.Lines.{HasNoOperands, IsListOfNext, IsOpOfNext};
 ghost use Rattle.job_slots.specs.declared.status.Status.TheVariants as status;
 ghost use Rattle.job_slots.specs.declared.answer.Finished.TheVariants as finished;
+ghost use Rattle.job_slots.specs.declared.answer.Compare.TheVariants as compared;
 ghost use Rattle.job_slots.specs.declared.answer.Stepped.TheVariants as stepped;
 ghost use Rattle.job_slots.specs.InPlace.{IsPlaceable, is_constant};
 ghost use Rattle.job_slots.specs.Holdings.{HoldSomeStack, HoldNothing};
@@ -29,7 +30,7 @@ ghost use Rattle.job_slots.specs.Answers.{Begins, IsPutOff, Finishes, Fits, IsEn
 ghost use Rattle.job_slots.specs.Answers.{is_live, or_same, question_at, standing_after_begun, standing_after_finished};
 ghost use Rattle.job_slots.specs.Answers.{CanStep, Steps, TakesStep, IsPassedOver, after_stepped, standing_after_step};
 
-use crate::answer::{Begun, Finished, Stepped};
+use crate::answer::{Begun, Compare, Finished, Stepped};
 use crate::class::{self, Class};
 use crate::collect::results;
 use crate::commit::{Made, execute, made_in_flight};
@@ -254,9 +255,12 @@ impl<A: Allocator> Slot<A> {
         job: &Job<A>,
         blocks: &mut JobMemory<A>,
         filled: Filled<A>,
+        compare: Compare,
     ) -> (Finished, Desk<A>)
         requires shows { Shows turn.number blocks.old (ruled turn.rule job.now) self.old }
         requires numbers { block_count blocks.old.memory + 2 ≤ length blocks.old.memory.slots }
+        requires own { compare ≡ compared.Number
+            → question_at (ruled turn.rule job.now) filled.step ≡ Some filled.question }
         ensures answer { Finishes turn.number (ruled turn.rule job.now) (standing_of self.old) filled result.0 }
         ensures desk { result.1 ≡ filled.words }
         ensures shows { Shows turn.number blocks.new (ruled turn.rule job.now) self.new }
@@ -273,45 +277,15 @@ impl<A: Allocator> Slot<A> {
                 return (Finished::Stale, filled.into_desk());
             }
         }
-        if !is_asked(turn, job, &self.track, blocks, &filled) {
+        let is_next = match compare {
+            Compare::Number => self.track.executed() == filled.step(),
+            Compare::Operands => is_asked(turn, job, &self.track, blocks, &filled),
+        };
+        if !is_next {
             return (Finished::Stale, filled.into_desk());
         }
         let finished = self.commit(turn, job, blocks, &filled);
         (finished, filled.into_desk())
-    }
-
-    /// Commits a step that was computed, as `finish` does, but compares no operands: the step is known to ask what the
-    /// job's run asks at its number. `Stale` exactly if no step of this number is in flight.
-    ///
-    /// There have to be numbers for two blocks more.
-    pub fn finish_own(
-        &mut self,
-        turn: Turn,
-        job: &Job<A>,
-        blocks: &mut JobMemory<A>,
-        filled: Filled<A>,
-    ) -> (Finished, Desk<A>)
-        requires shows { Shows turn.number blocks.old (ruled turn.rule job.now) self.old }
-        requires numbers { block_count blocks.old.memory + 2 ≤ length blocks.old.memory.slots }
-        requires own { question_at (ruled turn.rule job.now) filled.step ≡ Some filled.question }
-        ensures answer { Finishes turn.number (ruled turn.rule job.now) (standing_of self.old) filled result.0 }
-        ensures desk { result.1 ≡ filled.words }
-        ensures shows { Shows turn.number blocks.new (ruled turn.rule job.now) self.new }
-        ensures others { ChangesOnlyOf turn.number blocks.old blocks.new }
-        ensures standing { standing_of self.new ≡ standing_after_finished result.0 (standing_of self.old)
-            (or_same (standing_of self.old)
-            (next_standing (event.Finish turn.number) (ruled turn.rule job.now) (standing_of self.old))) }
-        ensures unchanged { result.0 ≡ finished.Stale → (self.new ≡ self.old) × (blocks.new ≡ blocks.old) }
-    {
-        changes_join();
-        match self.status {
-            Status::InFlight if self.track.executed() == filled.step() => {
-                let finished = self.commit(turn, job, blocks, &filled);
-                (finished, filled.into_desk())
-            }
-            Status::Waiting | Status::Live | Status::InFlight | Status::Ended | Status::Collected =>
-                (Finished::Stale, filled.into_desk()),
-        }
     }
 
     /// Carries out the next instruction of the job in one go. The desk is lent for its results. Takes no memory.

@@ -1,8 +1,9 @@
--- A finish moves the job of its step alone; without that job nothing changes.
-use Rattle.job_machine.proofs.TurnLemmas.{TurnOf, is_lent, finishes_in, finished_state, missing, turn_shows, turn_sound}
-use Rattle.job_machine.proofs.machine.Machine.finish.Given.{Over}
-use Rattle.job_machine.proofs.machine.Machine.finish.Goals as goal
-use Rattle.job_machine.proofs.machine.Machine.finish.Goals.{After-job_at}
+-- A finish moves the job of its step alone; without that job nothing changes. What is compared, the caller knows.
+use Rattle.job_machine.proofs.TurnLemmas.{TurnOf, is_lent, finishes_in, finished_state, missing, own_question}
+use Rattle.job_machine.proofs.TurnLemmas.{turn_shows, turn_sound}
+use Rattle.job_machine.proofs.machine.Machine.finish_of.Given.{Over}
+use Rattle.job_machine.proofs.machine.Machine.finish_of.Goals as goal
+use Rattle.job_machine.proofs.machine.Machine.finish_of.Goals.{After-job_at}
 
 -- the job has the turn
 turn : (g : Over) (c : goal.After-job_at g) → TurnOf c.self.inside c.args.self.now c.job-job.result c.in-Some.place
@@ -20,6 +21,11 @@ invariant_of-self g c =
     turn_sound (turn g (goal.at.invariant_of-self g c).After-job_at) c.turn_laws.ensures.others c.self.invariant
     c.finish.ensures.others c.finish.ensures.shows
 
+pub finish-requires-clause-own : goal.finish-requires-clause-own
+finish-requires-clause-own g c =
+    λ is_own. own_question (turn g (goal.at.finish-requires-clause-own g c).After-job_at) c.args.filled
+    c.job-job.ensures (c.requires is_own)
+
 pub returns : goal.returns
 returns g c =
     let turn = turn g (goal.at.returns g c).After-job_at in
@@ -27,7 +33,8 @@ returns g c =
       answer = finishes_in turn c.args.filled c.job-job.ensures _ c.finish.ensures.answer;
       desk = c.finish.ensures.desk;
       state = rw c.job-job.ensures at (finished_state turn c.finish.new.blocks c.finish.new.self
-          c.finish.ensures.others.memory.room c.turn_laws.ensures c.finish.result.0 c.finish.ensures.standing);
+          c.finish.ensures.others.memory.room c.turn_laws.ensures c.finish.result.0
+          c.finish.ensures.standing);
     }
 
 pub returns-in_default-clause-answer : goal.returns-in_default-clause-answer
