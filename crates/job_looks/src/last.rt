@@ -84,7 +84,7 @@ fn run_to_end(
     let mut recent = Recent::new(alloc)?;
     go_to_last(watch, &mut recent)?;
     let count = watch.run().executed();
-    let steps = recent.last(alloc, count)?;
+    let steps = recent.last(alloc, watch.run())?;
     let picture = picture_of(alloc, watch, most)?;
     watch.uses.step();
     watch.uses.collect()?;

@@ -3,15 +3,16 @@
 use crate::padding::{push_column, push_right};
 use crate::pieces::push_answer;
 use crate::stack::push_values;
-use crate::state::place_of;
 use crate::text::Text;
 use crate::watch::Watch;
 use code_places::Spans;
-use job_history::Next;
+use job_history::{Next, op_of};
 use job_profile::{Run, Uses};
+use job_steps::Frame;
 use refusal_notes::{Lines, kind_text};
 use std::alloc::{AllocError, Global};
 use vcode_base::{Kind, Op};
+use vcode_reader::Program;
 
 /// The last instructions that are shown of a job.
 const MOST_STEPS: u64 = 6;
@@ -19,73 +20,65 @@ const MOST_STEPS: u64 = 6;
 /// How many instructions are kept, a power of 2.
 const MOST_KEPT: u64 = 8;
 
-/// An instruction that was executed: its number, its place in its function and its line, and how many entries and words
-/// there were after it.
+/// Where an instruction is that was executed, and how many entries and words there were after it.
 #[derive(Clone, Copy, Drop)]
-pub struct Step {
-    number: u64,
-    function: usize,
-    place: usize,
-    op: Op,
-    /// The line of the instruction.
-    pub line: u64,
+struct Mark {
+    frame: Frame,
     entries: usize,
     held: usize,
 }
 
-/// The instructions that a run has executed last, each at its number modulo [`MOST_KEPT`].
+/// An instruction that was executed: its number, and its line.
+#[derive(Clone, Copy, Drop)]
+pub struct Step {
+    number: u64,
+    mark: Mark,
+    op: Op,
+    /// The line of the instruction.
+    pub line: u64,
+}
+
+/// The marks of the instructions that a run has executed last, each at its number modulo [`MOST_KEPT`].
 #[derive(Drop)]
 pub(crate) struct Recent {
-    steps: Vec<Step>,
+    marks: Vec<Mark>,
 }
 
-/// The next instruction of a run that has executed as many.
-#[derive(Clone, Copy, Drop)]
-struct Coming {
-    next: Next,
-    function: usize,
-    place: usize,
-    executed: u64,
-}
-
-impl Coming {
-    /// The next instruction of a run, if the job goes on.
+impl Mark {
+    /// That of an instruction in this frame, which a run has executed.
     #[inline(always)]
-    fn of(run: &Run<Global>) -> Option<Coming> {
-        let next = Next::of(run)?;
-        let (function, place) = place_of(&run.frames());
-        Some(Coming {
-            next,
-            function,
-            place,
-            executed: run.executed(),
-        })
-    }
-
-    /// The instruction after the run has made a step. `None` if it wasn't executed, since it ended the job.
-    #[inline(always)]
-    fn step(self, run: &Run<Global>) -> Option<Step> {
-        let number = run.executed();
-        if number == self.executed {
-            return None;
-        }
-        Some(Step {
-            number,
-            function: self.function,
-            place: self.place,
-            op: self.next.op,
-            line: self.next.line,
+    fn after(frame: Frame, run: &Run<Global>) -> Mark {
+        Mark {
+            frame,
             entries: run.depth(),
             held: run.held(),
-        })
+        }
     }
 }
 
 /// Executes the next instruction. `None` if it isn't executed, since it ends the job, or if there is none.
 pub fn step_of(uses: &mut Uses<Global>) -> Option<Step> {
-    let coming = Coming::of(uses.run())?;
+    let (next, frame) = coming(uses.run())?;
+    let executed = uses.executed();
     uses.step();
-    coming.step(uses.run())
+    let number = uses.executed();
+    if number == executed {
+        return None;
+    }
+    Some(Step {
+        number,
+        mark: Mark::after(frame, uses.run()),
+        op: next.op,
+        line: next.line,
+    })
+}
+
+/// The next instruction of a run, and its frame, if the job goes on.
+#[inline(always)]
+fn coming(run: &Run<Global>) -> Option<(Next, Frame)> {
+    let next = Next::of(run)?;
+    let frame = run.frames().last()?;
+    Some((next, frame))
 }
 
 impl Recent {
@@ -95,17 +88,16 @@ impl Recent {
     ///
     /// [`AllocError`] if memory was refused.
     pub(crate) fn new(alloc: Global) -> Result<Recent, AllocError> {
-        let none = Step {
-            number: 0,
-            function: 0,
-            place: 0,
-            op: Op::If,
-            line: 0,
+        let none = Mark {
+            frame: Frame {
+                function: 0,
+                place: 0,
+            },
             entries: 0,
             held: 0,
         };
-        let steps = vec![in alloc; none; MOST_KEPT as usize]?;
-        Ok(Recent { steps })
+        let marks = vec![in alloc; none; MOST_KEPT as usize]?;
+        Ok(Recent { marks })
     }
 
     /// Executes the next instruction of a run, unless it is the last RET. True if it was executed.
@@ -114,42 +106,55 @@ impl Recent {
     ///
     /// [`AllocError`] if memory was refused.
     pub(crate) fn step(&mut self, watch: &mut Watch) -> Result<bool, AllocError> {
-        let Some(coming) = Coming::of(watch.run()) else {
+        let Some((next, frame)) = coming(watch.run()) else {
             return Ok(false);
         };
-        if watch.trail.ends_with(coming.next) {
+        if watch.trail.ends_with(next) {
             return Ok(false);
         }
-        watch.take(coming.next)?;
-        match coming.step(watch.run()) {
-            Some(step) => {
-                self.keep(step);
-                Ok(true)
-            }
-            None => Ok(false),
+        if !watch.take(next)? {
+            return Ok(false);
         }
+        let run = watch.run();
+        self.keep(run.executed(), Mark::after(frame, run));
+        Ok(true)
     }
 
-    /// Keeps an instruction.
+    /// Keeps the mark of the instruction of this number.
     #[inline(always)]
-    fn keep(&mut self, step: Step) {
-        let place = (step.number % MOST_KEPT) as usize;
-        if let Some(kept) = self.steps.get_mut(place) {
-            *kept = step;
+    fn keep(&mut self, number: u64, mark: Mark) {
+        let place = (number % MOST_KEPT) as usize;
+        if let Some(kept) = self.marks.get_mut(place) {
+            *kept = mark;
         }
     }
 
-    /// The last instructions of a run that has executed as many, at most 6, the last one at the end.
+    /// The instruction of this number, which is one of the last that a run of a program has executed.
+    fn at(&self, program: &Program<Global>, number: u64) -> Option<Step> {
+        let mark = *self.marks.get((number % MOST_KEPT) as usize)?;
+        let line = program
+            .functions()
+            .get(mark.frame.function)?
+            .item(mark.frame.place)?;
+        Some(Step {
+            number,
+            mark,
+            op: op_of(&line),
+            line: line.number,
+        })
+    }
+
+    /// The instructions that a run has executed last, at most 6, the last one at the end.
     ///
     /// # Errors
     ///
     /// [`AllocError`] if memory was refused.
-    pub(crate) fn last(&self, alloc: Global, executed: u64) -> Result<Vec<Step>, AllocError> {
-        let mut steps = Vec::new(alloc);
-        for number in executed.saturating_sub(MOST_STEPS)..executed {
-            let place = (number.saturating_add(1) % MOST_KEPT) as usize;
-            if let Some(step) = self.steps.get(place) {
-                steps.push(*step)?;
+    pub(crate) fn last(&self, alloc: Global, run: &Run<Global>) -> Result<Vec<Step>, AllocError> {
+        let (mut steps, executed) = (Vec::new(alloc), run.executed());
+        for before in executed.saturating_sub(MOST_STEPS)..executed {
+            let program = run.job().verified().program();
+            if let Some(step) = self.at(program, before.saturating_add(1)) {
+                steps.push(step)?;
             }
         }
         Ok(steps)
@@ -163,7 +168,7 @@ pub fn push_step_head(text: &mut Text) {
 
 /// The text of an instruction that was executed, or the code of its line.
 fn text_of(alloc: Global, lines: &Lines, spans: &Spans, step: Step) -> Result<String, AllocError> {
-    match spans.at(step.function, step.place) {
+    match spans.at(step.mark.frame.function, step.mark.frame.place) {
         Some(word) => lines.word(alloc, step.line, spans.first, word),
         None => lines.code(alloc, step.line),
     }
@@ -174,8 +179,8 @@ pub fn push_step(text: &mut Text, alloc: Global, lines: &Lines, spans: &Spans, s
     text.push(' ');
     push_column(text, step.number, 9);
     push_column(text, step.line, 8);
-    push_column(text, step.entries as u64, 8);
-    push_column(text, step.held as u64, 10);
+    push_column(text, step.mark.entries as u64, 8);
+    push_column(text, step.mark.held as u64, 10);
     text.push_str("  ");
     push_answer(text, text_of(alloc, lines, spans, step));
     text.push('\n');
