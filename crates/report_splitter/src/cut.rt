@@ -31,6 +31,7 @@ struct Entry<'a> {
 }
 
 /// The entry of this tail: what follows the place of its job.
+#[tactic(auto, using(crate::proofs::EntryLemmas::after_byte), unfolding(crate::specs::ReportTexts::tail_text))]
 fn entry_of(tail: &[u8]) -> Option<Entry<'_>>
     ensures { (entry : EntryText) → IsEntryText entry → tail.now ≡ tail_text entry
         → MatchOption result ⊥ (λ e. (e.name.now ≡ entry.name) × (e.end ≡ entry.end) × (e.text.now ≡ entry.text)) }

@@ -90,7 +90,7 @@ fn split_stop(ending: &[u8]) -> Option<(Stop, &[u8])>
 }
 
 /// The number that these digits are.
-#[tactic(auto, using(crate::proofs::EntryLemmas::number_is_utf8, crate::proofs::EntryLemmas::read_number))]
+#[tactic(auto, using(crate::proofs::EntryLemmas::read_number))]
 pub(crate) fn parse_digits(digits: &[u8]) -> Option<u64>
     ensures { (number : ℕ) → number < 2 ^ 64 → digits.now ≡ decimal number → result ≡ Some number }
 {
@@ -116,6 +116,7 @@ pub(crate) fn split_blank(text: &[u8]) -> Option<(&[u8], &[u8])>
 }
 
 /// A number and what follows it, where a blank ends the number.
+#[tactic(auto, using(crate::proofs::EntryLemmas::blank_apart))]
 fn split_number(text: &[u8]) -> Option<(u64, &[u8])>
     ensures { (number : ℕ) (rest : List ℕ) → number < 2 ^ 64 → text.now ≡ decimal number ++ (codes " " ++ rest)
         → MatchOption result ⊥ (λ r. (r.0 ≡ number) × (r.1.now ≡ codes " " ++ rest)) }

@@ -173,6 +173,7 @@ impl From<AllocError> for ManifestFault {
 }
 
 /// The job of an entry, which has this place.
+#[tactic(auto, unfolding(crate::specs::Manifests::job_words))]
 fn job_of(entry: &[u8], place: u64) -> Option<PackedJob<'_>>
     ensures { (job : PackedText) → IsPackedText job → place < 2 ^ 64 → entry.now ≡ job_words place job
         → MatchOption result ⊥ (λ r. r ≡ job) }
@@ -188,6 +189,7 @@ fn job_of(entry: &[u8], place: u64) -> Option<PackedJob<'_>>
 }
 
 /// The batch of what follows the format in the first entry.
+#[tactic(auto, unfolding(crate::specs::Manifests::seal_words))]
 fn seal_of(words: &[u8]) -> Option<SealedBatch<'_>>
     ensures { (seal : BatchSeal) → IsBatchSeal seal → words.now ≡ seal_words seal
         → MatchOption result ⊥ (λ r. r ≡ seal) }

@@ -27,6 +27,7 @@ pub(crate) fn split_word(text: &[u8]) -> Option<(&[u8], &[u8])>
 }
 
 /// The number that begins a text, and what comes after the blank that ends it.
+#[tactic(auto, using(crate::proofs::EntryLemmas::blank_apart))]
 pub(crate) fn split_number_word(text: &[u8]) -> Option<(u64, &[u8])>
     ensures { (number : ℕ) (rest : List ℕ) → number < 2 ^ 64 → text.now ≡ decimal number ++ (32 ∷ rest)
         → MatchOption result ⊥ (λ r. (r.0 ≡ number) × (r.1.now ≡ rest)) }
