@@ -1,10 +1,9 @@
 -- Texts of lines, character by character.
-use Rattle.std.proofs.Common.{◌≡◌, ◌↔◌, ℕ, List, ◌++◌, length, Result, Ok, Err, IfOk, String, string_bytes, chars}
-use Rattle.std.proofs.Common.{encode_utf8, encode_utf8_all, IsUtf8, sym, subst, inr}
+use Rattle.std.proofs.Common.{arith, ◌≡◌, ◌↔◌, ℕ, List, ◌++◌, length, Result, IfOk, String, string_bytes, chars}
+use Rattle.std.proofs.Common.{encode_utf8, encode_utf8_all, IsUtf8}
 use Rattle.std.proofs.lemmas.Str.{chars_past_char, chars-nil, chars_from_encodes, IsUtf8-string_bytes}
 use Rattle.std.proofs.lemmas.List.{nil_from_length}
-use Rattle.std.proofs.lemmas.List.Elements.{All-nil, All-cons, All-tail}
-use Rattle.std.specs.List.{All}
+use Rattle.std.proofs.lemmas.List.Elements.{All-cons, All-tail}
 use Rattle.shown_text.specs.Lines.{IsOfLines, HasShownLines}
 use Rattle.shown_text.specs.Shown.{shown_text}
 use Rattle.shown_text.proofs.Printable.{shown_is_printable}
@@ -18,13 +17,11 @@ lines_step text rest c utf8 parts fits =
 
 -- the empty text has them
 pub no_lines : (text : List ℕ) → length text ≡ 0 → HasShownLines text
-no_lines text none = rw (nil_from_length text none, chars-nil) (All-nil IsOfLines)
+no_lines text none = grind (arith, nil_from_length text none, chars-nil)
 
 -- what is shown of bytes is one such line
 pub shown_has_lines : {Z E : Type 0} (bs : List ℕ) (r : Result (String Z) E)
     → IfOk r (λ text. string_bytes text ≡ encode_utf8_all (shown_text bs))
     → IfOk r (λ text. HasShownLines (string_bytes text))
-shown_has_lines bs (Ok text) e =
-    let same = chars_from_encodes (shown_text bs) (string_bytes text) (IsUtf8-string_bytes text) (sym e) in
-    subst (All IsOfLines) same (λ k d below. inr (shown_is_printable bs k d below))
-shown_has_lines bs (Err _) _ = tt
+shown_has_lines bs r e =
+    grind (arith, chars_from_encodes (shown_text bs), IsUtf8-string_bytes, shown_is_printable bs)

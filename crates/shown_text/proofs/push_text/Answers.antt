@@ -1,4 +1,4 @@
-use Rattle.std.proofs.Common.{sym, ◌∙◌, append_assoc, append-nil}
+use Rattle.std.proofs.Common.{append_assoc, append-nil, arith}
 use Rattle.std.proofs.lemmas.Str.{IsUtf8-past_char}
 use Rattle.shown_text.proofs.Pieces.{shown_chars_step, shown_chars_empty}
 use Rattle.shown_text.proofs.push_text.Goals as goal
@@ -7,8 +7,8 @@ pub loop-c-preserved : goal.loop-c-preserved
 loop-c-preserved g c =
     let held = c.loop-c.invariant in
     let parts = c.in-Some.ensures.steps.0 in
-    let step = shown_chars_step _ _ c.in-Some.c held.0 parts in
-    (IsUtf8-past_char _ _ c.in-Some.c held.0 parts, rw (c.in_ok-push_char.ensures, append_assoc) (rw step at held.1))
+    let utf8 = IsUtf8-past_char _ _ c.in-Some.c held.0 parts in
+    grind (arith, append_assoc, shown_chars_step _ _ c.in-Some.c held.0 parts, utf8)
 
 pub returns : goal.returns
-returns g c = sym (append-nil _) ∙ rw (shown_chars_empty _ c.in-None.ensures.steps.0.0) at c.loop-c.invariant.1
+returns g c = grind (arith, append-nil, shown_chars_empty)
