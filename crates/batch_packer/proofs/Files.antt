@@ -1,6 +1,5 @@
 -- A file that is read as a batch.
-use Rattle.std.proofs.Common.{◌≡◌, ℕ, ◌<◌, List, [], ◌∷◌, length, get_or, Result, Ok, Err, refl, sym, ap, ◌∙◌, arith}
-use Rattle.std.proofs.Common.{subst}
+use Rattle.std.proofs.Common.{◌≡◌, ℕ, ◌<◌, List, [], ◌∷◌, length, get_or, Ok, Err, refl, sym, ap, ◌∙◌, arith, subst}
 use Rattle.vcode_base.specs.declared.rule.Rule.{Rule}
 use Rattle.job_steps.specs.States.{JobValue}
 use Rattle.batch_reader.specs.declared.entry.Batch.{Batch as Batched}
@@ -8,29 +7,24 @@ use Rattle.batch_reader.specs.declared.entry.Batch.TheVariants.{Jobs}
 use Rattle.batch_reader.specs.declared.entry.Fate.{Fate}
 use Rattle.batch_reader.specs.declared.entry.Fate.TheVariants.{Ready, Refused}
 use Rattle.batch_reader.specs.declared.fault.JobFault.{JobFault}
-use Rattle.batch_reader.specs.Batches.{JobText}
+use Rattle.batch_reader.specs.Batches.{JobText, jobs_of}
 use Rattle.batch_reader.specs.Fates.{AreEntries, IsBatch, IsFate, JobEntry, signed_program_of}
 use Rattle.batch_packer.specs.declared.fault.PackFault.{PackFault}
-use Rattle.batch_packer.specs.declared.fault.PackFault.TheVariants.{Memory, Batch, NoJob, ManyJobs, Job}
-use Rattle.batch_packer.specs.Packs.{HoldsJob, HoldsNamed, IsNamedRunnable, IsRunnable, RefusesFile, RefusesJobs}
+use Rattle.batch_packer.specs.declared.fault.PackFault.TheVariants.{Memory, Batch}
+use Rattle.batch_packer.specs.Packs.{HoldsNamed, IsNamedRunnable, RefusesFile, RefusesJobs}
 
 -- no entry, no job
 pub no_entries : (region : ℕ) (jobs : List JobText) (entries : List JobEntry) → length entries ≡ 0
     → AreEntries region jobs entries → jobs ≡ []
 no_entries region [] entries none are = refl
-no_entries region (job ∷ jobs) [] none are = absurd are
-no_entries region (job ∷ jobs) (entry ∷ entries) none are = absurd (omega (arith, none))
+no_entries region jobs entries none are = absurd (grind arith)
 
 -- two entries, two jobs
 pub many_entries : (region : ℕ) (jobs : List JobText) (entries : List JobEntry) → 1 < length entries
     → AreEntries region jobs entries
     → (first : JobText) × (second : JobText) × (more : List JobText) × (jobs ≡ first ∷ second ∷ more)
-many_entries region [] [] many are = absurd (omega (arith, many))
-many_entries region [] (entry ∷ entries) many are = absurd are
-many_entries region (job ∷ []) [] many are = absurd are
-many_entries region (job ∷ []) (entry ∷ []) many are = absurd (omega (arith, many))
-many_entries region (job ∷ []) (entry ∷ other ∷ entries) many are = absurd are.1
 many_entries region (job ∷ second ∷ jobs) entries many are = (job, second, jobs, refl)
+many_entries region jobs entries many are = absurd (grind arith)
 
 -- the entry of the only job
 pub record OnlyEntry (region : ℕ) (jobs : List JobText) (entry : JobEntry) : Type 0 where
@@ -41,17 +35,9 @@ pub record OnlyEntry (region : ℕ) (jobs : List JobText) (entry : JobEntry) : T
 
 pub only_entry : (region : ℕ) (jobs : List JobText) (entries : List JobEntry) (any : JobEntry) → length entries ≡ 1
     → AreEntries region jobs entries → OnlyEntry region jobs (get_or entries 0 any)
-only_entry region [] [] any one are = absurd (omega (arith, one))
-only_entry region [] (entry ∷ entries) any one are = absurd are
-only_entry region (job ∷ jobs) [] any one are = absurd are
-only_entry region (job ∷ []) (entry ∷ entries) any one are = record {
-  job = job;
-  only = refl;
-  name = are.0.name;
-  fate = are.0.fate;
-}
-only_entry region (job ∷ second ∷ jobs) (entry ∷ []) any one are = absurd are.1
-only_entry region (job ∷ second ∷ jobs) (entry ∷ other ∷ entries) any one are = absurd (omega (arith, one))
+only_entry region (job ∷ []) (entry ∷ entries) any one are =
+    record { job = job; only = refl; name = are.0.name; fate = are.0.fate }
+only_entry region jobs entries any one are = absurd (grind arith)
 
 pub ready_entry : (region : ℕ) (jobs : List JobText) (entries all : List JobEntry) (any entry : JobEntry)
     (ready : JobValue) (name : List ℕ)
@@ -84,45 +70,21 @@ refused_entry region jobs entries all any line fault same one are is =
 
 -- ---- the answer to a file
 
-holds_entries : (region other : ℕ) (bytes : List ℕ) (rule : Rule) (entries : List JobEntry) (name : List ℕ)
-    → other ≡ region
-    → IsBatch other bytes (Jobs rule entries)
-    → ((r : ℕ) (jobs : List JobText) → AreEntries r jobs entries → IsNamedRunnable r jobs name)
-    → HoldsNamed region bytes rule name
-holds_entries region other bytes rule entries name same batch runs =
-    let named = subst (λ (r : ℕ). IsNamedRunnable r batch.0 name) same (runs other batch.0 batch.2) in
-    record {
-      holds = record { jobs = batch.0; is_batch = batch.1; runnable = named.runnable };
-      name_is = named.name_is;
-    }
-
-refuses_entries : (region other : ℕ) (bytes : List ℕ) (rule : Rule) (entries : List JobEntry) (fault : PackFault)
-    → other ≡ region → IsBatch other bytes (Jobs rule entries)
-    → ((r : ℕ) (jobs : List JobText) → AreEntries r jobs entries → RefusesJobs r jobs fault)
-    → RefusesFile region bytes fault
-refuses_entries region other bytes rule entries NoJob same batch refuses =
-    (rule, batch.0, batch.1, subst (λ (r : ℕ). RefusesJobs r batch.0 NoJob) same (refuses other batch.0 batch.2))
-refuses_entries region other bytes rule entries ManyJobs same batch refuses =
-    (rule, batch.0, batch.1, subst (λ (r : ℕ). RefusesJobs r batch.0 ManyJobs) same (refuses other batch.0 batch.2))
-refuses_entries region other bytes rule entries (Job line fault) same batch refuses = (
-  rule,
-  batch.0,
-  batch.1,
-  subst (λ (r : ℕ). RefusesJobs r batch.0 (Job line fault)) same
-      (refuses other batch.0 batch.2),
-)
-refuses_entries region other bytes rule entries (Batch line fault) same batch refuses =
-    absurd (refuses other batch.0 batch.2)
-refuses_entries region other bytes rule entries Memory same batch refuses = tt
-
 pub holds_job : (region other : ℕ) (bytes : List ℕ) (batch : Batched (List JobEntry)) (rule : Rule)
     (entries : List JobEntry) (name : List ℕ)
     → other ≡ region → batch ≡ Jobs rule entries → IsBatch other bytes batch
     → ((r : ℕ) (jobs : List JobText) → AreEntries r jobs entries → IsNamedRunnable r jobs name)
     → HoldsNamed region bytes rule name
 holds_job region other bytes batch rule entries name same is answer runs =
-    holds_entries region other bytes rule entries name same
-    (subst (λ (b : Batched (List JobEntry)). IsBatch other bytes b) is answer) runs
+    let b : IsBatch region bytes (Jobs rule entries) = rw (same, is) at answer in
+    let named = runs region b.0 b.2 in
+    record { holds = record { jobs = b.0; is_batch = b.1; runnable = named.runnable }; name_is = named.name_is }
+
+refused : (region : ℕ) (bytes : List ℕ) (rule : Rule) (jobs : List JobText) (fault : PackFault)
+    → jobs_of bytes ≡ Ok (rule, jobs) → RefusesJobs region jobs fault → RefusesFile region bytes fault
+refused region bytes rule jobs (Batch line fault) is h = absurd h
+refused region bytes rule jobs Memory is h = tt
+refused region bytes rule jobs fault is h = (rule, jobs, is, h)
 
 pub refuses_jobs : (region other : ℕ) (bytes : List ℕ) (batch : Batched (List JobEntry)) (rule : Rule)
     (entries : List JobEntry) (fault : PackFault)
@@ -130,5 +92,5 @@ pub refuses_jobs : (region other : ℕ) (bytes : List ℕ) (batch : Batched (Lis
     → ((r : ℕ) (jobs : List JobText) → AreEntries r jobs entries → RefusesJobs r jobs fault)
     → RefusesFile region bytes fault
 refuses_jobs region other bytes batch rule entries fault same is answer refuses =
-    refuses_entries region other bytes rule entries fault same
-    (subst (λ (b : Batched (List JobEntry)). IsBatch other bytes b) is answer) refuses
+    let b : IsBatch region bytes (Jobs rule entries) = rw (same, is) at answer in
+    refused region bytes rule b.0 fault b.1 (refuses region b.0 b.2)

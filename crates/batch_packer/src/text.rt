@@ -50,6 +50,7 @@ fn end_line<A: Allocator>(text: &mut Vec<u8, A>) -> Result<(), AllocError>
 }
 
 /// Whether a text has a last line that lacks its LF.
+#[tactic(auto, using(crate::proofs::Texts::last_is), unfolding(crate::specs::Joins::with_last_feed))]
 fn is_open(text: &[u8]) -> bool
     ensures { with_last_feed text.now ≡ (if result then text.now ++ 10 ∷ [] else text.now) }
 {
@@ -60,6 +61,7 @@ fn is_open(text: &[u8]) -> bool
 }
 
 /// Appends these bytes to a text, with blanks for the first line that has words.
+#[tactic(auto, using(crate::proofs::Texts::steps), unfolding(crate::specs::Joins::without_first_words))]
 fn leave_first_words<A: Allocator>(text: &mut Vec<u8, A>, bytes: &[u8]) -> Result<(), AllocError>
     ensures { OnOk result (text.new.items ≡ text.old.items ++ without_first_words bytes.now) }
 {
@@ -74,6 +76,7 @@ fn leave_first_words<A: Allocator>(text: &mut Vec<u8, A>, bytes: &[u8]) -> Resul
 }
 
 /// Appends these bytes to a text, with blanks for what comes before the first LF.
+#[tactic(auto, using(crate::proofs::Texts::steps), unfolding(crate::specs::Joins::blank_to_feed))]
 fn leave_line<A: Allocator>(text: &mut Vec<u8, A>, bytes: &[u8]) -> Result<(), AllocError>
     ensures { OnOk result (text.new.items ≡ text.old.items ++ blank_to_feed bytes.now) }
 {
