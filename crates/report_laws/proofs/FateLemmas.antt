@@ -5,7 +5,6 @@ use Rattle.std.specs.Prelude.{map, option_map, IfSome}
 use Rattle.vcode_base.specs.declared.kind.Kind.{Kind}
 use Rattle.vcode_base.specs.declared.limits.Limits.{Limits}
 use Rattle.vcode_base.specs.declared.outcome.Outcome.{Outcome}
-use Rattle.vcode_base.specs.declared.outcome.Outcome.TheVariants.{Returned, Fault, Memory, Budget}
 use Rattle.vcode_base.specs.declared.rule.Rule.{Rule}
 use Rattle.vcode_base.specs.Names.{main_name}
 use Rattle.vcode_reader.specs.Reading.{reading as code_reading}
@@ -14,7 +13,6 @@ use Rattle.vcode_reader.specs.Trees.{Function, Program}
 use Rattle.signatures.specs.First.{EveryTextIsRead, OneReading}
 use Rattle.signatures.specs.Signatures.{FunctionType, Signature, kinds_of}
 use Rattle.verifier.specs.Faults.{Fault as KindRefusal}
-use Rattle.verifier.specs.First.{kind_fault}
 use Rattle.verifier.specs.Typed.{TypedProgram}
 use Rattle.job_steps.specs.Runs.{outcome}
 use Rattle.job_steps.specs.States.{JobValue, Task, Vector, ruled}
@@ -66,27 +64,19 @@ module _ (n : ℕ) where
   by_kinds : (signed : SignedProgram) (fault : Option KindRefusal)
       → signed_or_fault (signed.0, moved_program n signed.1) (option_map (fault_further_on n) fault)
       ≡ signed_further_on n (signed_or_fault signed fault)
-  by_kinds signed None = refl
-  by_kinds signed (Some fault) = refl
+  by_kinds signed fault = grind arith
 
   by_code : (signatures : List Signature) (r : Result Program CodeRefusal)
       → result_and_then (refusal_by Read (code_further_on n r)) (kinded_program signatures)
       ≡ signed_further_on n (result_and_then (refusal_by Read r) (kinded_program signatures))
-  by_code signatures (Ok program) =
-      ap (signed_or_fault (signatures, moved_program n program)) (kinds_move n signatures program)
-      ∙ by_kinds (signatures, program) (kind_fault signatures program)
-  by_code signatures (Err fault) = refl
+  by_code signatures r = grind (arith, kinds_move, by_kinds)
 
   by_signatures : (job : JobText) (r : Result (List Signature) JobRefusal)
       → result_and_then (further_on n r) (λ (signatures : List Signature).
       result_and_then (refusal_by Read (code_reading (job.code_line + n) job.code)) (kinded_program signatures))
       ≡ signed_further_on n (result_and_then r (λ (signatures : List Signature).
       result_and_then (refusal_by Read (code_reading job.code_line job.code)) (kinded_program signatures)))
-  by_signatures job (Ok signatures) =
-      ap (λ (code : Result Program CodeRefusal). result_and_then (refusal_by Read code) (kinded_program signatures))
-      (code_moves n job.code_line job.code)
-      ∙ by_code signatures (code_reading job.code_line job.code)
-  by_signatures job (Err refusal) = refl
+  by_signatures job r = grind (arith, code_moves, by_code)
 
   module _ (every : EveryTextIsRead) (one : OneReading) where
     signed_moved : (region : ℕ) (job : JobText)
@@ -114,8 +104,7 @@ same_kinds : (n : ℕ) (signatures : List Signature) (fs : List Function)
     → map (λ (f : Function). kinds_of signatures f.name) (map (moved_function n) fs)
     ≡ map (λ (f : Function). kinds_of signatures f.name) fs
 same_kinds n signatures [] = refl
-same_kinds n signatures (f ∷ fs) =
-    ap (λ (os : List (Option FunctionType)). kinds_of signatures f.name ∷ os) (same_kinds n signatures fs)
+same_kinds n signatures (f ∷ fs) = grind (arith, same_kinds n signatures fs)
 
 abbrev second_or : List Kind → Option FunctionType → List Kind
 second_or ks None = ks
@@ -199,17 +188,11 @@ late_line : (l : ℕ) → 1 ≤ l + 1
 late_line l = omega arith
 
 late_outcome : (o : Outcome (List Vector)) → IfSome (line_end (moved_outcome 1 o)) (λ end. 1 ≤ end.line)
-late_outcome (Returned results) = tt
-late_outcome (Fault fault line) = late_line line
-late_outcome (Memory fault line) = late_line line
-late_outcome Budget = tt
+late_outcome o = grind (arith, late_line)
 
 module _ (every : EveryTextIsRead) (one : OneReading) (rule : Rule) (region : ℕ) (job : JobText) where
   late_refusal : (r : Signed) (refusal : JobRefusal) → Err refusal ≡ signed_further_on 1 r → 1 ≤ refusal.1
-  late_refusal (Ok signed) refusal e =
-      absurd (ok_isnt_err (signed.0, moved_program 1 signed.1) refusal (sym e))
-  late_refusal (Err found) refusal e =
-      subst (λ (l : ℕ). 1 ≤ l) (sym (ap (λ (r : Signed). (refused_or refusal r).1) e)) (late_line found.1)
+  late_refusal r refusal h1 = grind (arith, ok_isnt_err, late_line)
 
   late_program : (r : Signed) (task : Task) (signatures : List Signature)
       → Ok (signatures, task.verified.program) ≡ signed_further_on 1 r

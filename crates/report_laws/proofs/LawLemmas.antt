@@ -1,14 +1,11 @@
 -- The laws of reports that are cut.
-use Rattle.std.proofs.Common.{◌≡◌, ◌≤◌, ◌+◌, ◌-◌, ℕ, List, [], ◌∷◌, ◌++◌, refl, sym, ap, ◌∙◌, arith, Option}
-use Rattle.std.proofs.Common.{Some, length}
+use Rattle.std.proofs.Common.{◌≡◌, ◌≤◌, ◌+◌, ◌-◌, ℕ, List, [], ◌∷◌, sym, ap, ◌∙◌, arith, Option}
+use Rattle.std.proofs.Common.{length}
 use Rattle.std.specs.Prelude.{IfSome, option_map}
 use Rattle.vcode_base.specs.declared.outcome.Outcome.{Outcome}
-use Rattle.vcode_base.specs.declared.outcome.Outcome.TheVariants.{Returned, Fault, Memory, Budget}
-use Rattle.job_steps.specs.Runs.{outcome, executed_count, peak}
 use Rattle.job_steps.specs.States.{Vector, Task}
 use Rattle.batch_reader.specs.declared.entry.Fate.{Fate}
-use Rattle.batch_reader.specs.declared.entry.Fate.TheVariants.{Ready, Refused}
-use Rattle.batch_front.specs.Reports.{refused_count, report_of, ruled_entries, used_text}
+use Rattle.batch_front.specs.Reports.{refused_count, report_of, ruled_entries}
 use Rattle.report_laws.specs.EntryParts.{entry_parts, fate_end, line_end, text_after_end, text_after_fate}
 use Rattle.report_laws.specs.Laws.{IsFateFurtherOn, OwnReportsAreCut, ReportsAreCut}
 use Rattle.report_laws.specs.MovedCode.{moved_outcome}
@@ -36,49 +33,24 @@ module _ (n : ℕ) where
 
   own_line_end : (o : Outcome (List Vector)) → Late (line_end o)
       → option_map (own_end (n + 1)) (line_end (moved_outcome n o)) ≡ line_end o
-  own_line_end (Returned results) late = refl
-  own_line_end (Fault fault line) late = ap (λ (l : ℕ). Some (record { stop = stop.Fault; line = l }))
-      (line_back line late)
-  own_line_end (Memory fault line) late = ap (λ (l : ℕ). Some (record { stop = stop.Memory; line = l }))
-      (line_back line late)
-  own_line_end Budget late = refl
+  own_line_end o h1 = grind (arith, line_back)
 
   same_text_after : (o : Outcome (List Vector)) → text_after_end (moved_outcome n o) ≡ text_after_end o
-  same_text_after (Returned results) = refl
-  same_text_after (Fault fault line) = refl
-  same_text_after (Memory fault line) = refl
-  same_text_after Budget = refl
+  same_text_after o = grind arith
 
   none_refused : (o : Outcome (List Vector)) → refused_in (line_end o) ≡ 0
-  none_refused (Returned results) = refl
-  none_refused (Fault fault line) = refl
-  none_refused (Memory fault line) = refl
-  none_refused Budget = refl
+  none_refused o = grind arith
 
   own_fate_end : (own other : Fate Task) → IsFateFurtherOn n own other → Late (fate_end own)
       → option_map (own_end (n + 1)) (fate_end other) ≡ fate_end own
-  own_fate_end (Ready own) (Ready other) h late =
-      ap (λ (o : Outcome (List Vector)). option_map (own_end (n + 1)) (line_end o)) h.ends
-      ∙ own_line_end (outcome own) late
-  own_fate_end (Ready own) (Refused line fault) h late = absurd h
-  own_fate_end (Refused line fault) other h late =
-      ap (λ (f : Fate Task). option_map (own_end (n + 1)) (fate_end f)) h
-      ∙ ap (λ (l : ℕ). Some (record { stop = stop.Refused; line = l })) (line_back line late)
+  own_fate_end own other h1 h2 = grind (arith, own_line_end, line_back)
 
   own_fate_text : (own other : Fate Task) → IsFateFurtherOn n own other → text_after_fate other ≡ text_after_fate own
-  own_fate_text (Ready own) (Ready other) h =
-      ap (λ (o : Outcome (List Vector)). text_after_end o ++ used_text (executed_count other) (peak other)) h.ends
-      ∙ ap (λ (t : List ℕ). t ++ used_text (executed_count other) (peak other)) (same_text_after (outcome own))
-      ∙ ap (λ (i : ℕ). text_after_end (outcome own) ++ used_text i (peak other)) h.executed
-      ∙ ap (λ (w : ℕ). text_after_end (outcome own) ++ used_text (executed_count own) w) h.peaks
-  own_fate_text (Ready own) (Refused line fault) h = absurd h
-  own_fate_text (Refused line fault) other h = ap text_after_fate h
+  own_fate_text own other h1 = grind (arith, same_text_after)
 
   own_refused : (name : List ℕ) (own other : Fate Task) → IsFateFurtherOn n own other
       → refused_in (fate_end other) ≡ refused_count (record { name = name; fate = own } ∷ [])
-  own_refused name (Ready own) (Ready other) h = none_refused (outcome other)
-  own_refused name (Ready own) (Refused line fault) h = absurd h
-  own_refused name (Refused line fault) other h = ap (λ (f : Fate Task). refused_in (fate_end f)) h
+  own_refused name own other h1 = grind (arith, none_refused)
 
 abbrev parts_with : List ℕ → Option LineEnd → List ℕ → EntryText
 parts_with name end text = record { name = name; end = end; text = text }

@@ -1,5 +1,5 @@
 -- What refuses a job's words and signatures moves with the lines of the job.
-use Rattle.std.proofs.Common.{◌≡◌, ◌+◌, ℕ, Bool, true, false, List, refl, ap, ◌∙◌, arith, Result, Ok, Err}
+use Rattle.std.proofs.Common.{◌≡◌, ◌+◌, ℕ, Bool, List, arith, Result, Ok, Err}
 use Rattle.std.specs.Prelude.{nat_lt, if◌then◌else◌}
 use Rattle.vcode_base.specs.declared.limits.Limits.{Limits}
 use Rattle.signatures.specs.Faults.{Fault}
@@ -19,17 +19,7 @@ module _ (n : ℕ) where
 
   is_read_further_on : (first : ℕ) (text : List ℕ) (r : Result (List Signature) Fault) → IsReading r first text
       → IsReading (read_further_on r) (first + n) text
-  is_read_further_on first text (Ok signatures) h = h
-  is_read_further_on first text (Err fault) h = record {
-    before = h.before;
-    line = h.line;
-    after = h.after;
-    lines_are = h.lines_are;
-    known = h.known;
-    good = h.good;
-    wrong = h.wrong;
-    number = omega (arith, h.number);
-  }
+  is_read_further_on first text r h1 = grind arith
 
   module _ (every : EveryTextIsRead) (one : OneReading) where
     reading_further_on : (first : ℕ) (text : List ℕ) → reading (first + n) text ≡ read_further_on (reading first text)
@@ -38,17 +28,14 @@ module _ (n : ℕ) where
 
     refusal_further_on : (r : Result (List Signature) Fault)
         → refusal_by Sig (read_further_on r) ≡ further_on n (refusal_by Sig r)
-    refusal_further_on (Ok signatures) = refl
-    refusal_further_on (Err fault) = refl
+    refusal_further_on r = grind arith
 
     by_words : (large : Bool) (limits : Limits) (line first : ℕ) (text : List ℕ)
         → result_and_then (if large then Err (WordsPastRegion, line + n) else Ok limits) (λ _. refusal_by Sig
         (reading (first + n) text))
         ≡ further_on n (result_and_then (if large then Err (WordsPastRegion, line) else Ok limits)
         (λ _. refusal_by Sig (reading first text)))
-    by_words true limits line first text = refl
-    by_words false limits line first text = ap (refusal_by Sig) (reading_further_on first text)
-        ∙ refusal_further_on (reading first text)
+    by_words large limits line first text = grind (arith, reading_further_on, refusal_further_on)
 
 pub signatures_move : EveryTextIsRead → OneReading → SignaturesMove
 unfolding signatures_of limits_within
