@@ -1,17 +1,10 @@
 -- What a JOB line's words give.
-use Rattle.std.proofs.Common.{◌≡◌, ℕ, ◌≤◌, Bool, true, false, List, length, Some, None, refl, ap, ◌∙◌, arith}
-use Rattle.std.proofs.lemmas.Bool.Decides.{nat_tests}
+use Rattle.std.proofs.Common.{◌≡◌, ℕ, ◌≤◌, Bool, true, false, List, length, Some, ap, arith, rules}
 use Rattle.std.proofs.Math.Bridge.{le_prop}
-use Rattle.std.proofs.lemmas.Bool.{le-leb}
 use Rattle.vcode_base.specs.Bytes.{decimal}
 use Rattle.vcode_base.specs.declared.limits.Limits.{Limits}
 use Rattle.vcode_base.specs.declared.limits.TheConstants.{MOST_WORDS, MOST_CELLS, MOST_CALLS, MOST_BUDGET}
 use Rattle.batch_reader.specs.JobLines.{are_limits, limits_where, limits_of, number_of}
-
-none : (words cells calls budget : ℕ) (b : Bool) (e : are_limits words cells calls budget ≡ b) → b ≡ false
-    → limits_where words cells calls budget b e ≡ None
-none words cells calls budget true e n = cc
-none words cells calls budget false e n = refl
 
 both : {a b : ℕ} {c d : ℕ} → IsProp ((a ≤ b) × (c ≤ d))
 both = hlevel le_prop
@@ -34,19 +27,10 @@ limits_by words cells calls budget w c k b =
 same_limits : (words cells calls budget : ℕ) (w w' : words ≤ MOST_WORDS) (c c' : (1 ≤ cells) × (cells ≤ MOST_CELLS))
     (k k' : (1 ≤ calls) × (calls ≤ MOST_CALLS)) (b b' : budget ≤ MOST_BUDGET)
     → limits_by words cells calls budget w c k b ≡ limits_by words cells calls budget w' c' k' b'
-same_limits words cells calls budget w w' c c' k k' b b' =
-    ap (λ x. limits_by words cells calls budget x c k b) (le_prop w w')
-    ∙ ap (λ x. limits_by words cells calls budget w' x k b) (both c c')
-    ∙ ap (λ x. limits_by words cells calls budget w' c' x b) (both k k')
-    ∙ ap (λ x. limits_by words cells calls budget w' c' k' x) (le_prop b b')
+same_limits words cells calls budget w w' c c' k k' b b' = cc (le_prop w w', both c c', both k k', le_prop b b')
 
 fits : (l : Limits) → are_limits l.words l.cells l.calls l.budget ≡ true
-fits l =
-    let w = l.words_in_range in
-    let c = l.cells_in_range in
-    let k = l.calls_in_range in
-    let b = l.budget_in_range in
-    grind (arith, nat_tests)
+fits l = search rules
 
 found : (l : Limits) (b : Bool) (e : are_limits l.words l.cells l.calls l.budget ≡ b) → b ≡ true
     → limits_where l.words l.cells l.calls l.budget b e ≡ Some l
@@ -58,9 +42,9 @@ found l false e n = cc
 
 -- limits are those of their numbers
 pub limits_are : (l : Limits) → limits_of (Some l.words) (Some l.cells) (Some l.calls) (Some l.budget) ≡ Some l
-limits_are l = found l (are_limits l.words l.cells l.calls l.budget) refl (fits l)
+limits_are l = grind (arith, found, fits)
 
 -- ---- numbers
 
 pub number_is : (w : List ℕ) → length w ≤ 10 → number_of w ≡ decimal w
-number_is w short = rw (le-leb (length w) 10 short) refl
+number_is w short = search rules

@@ -1,6 +1,6 @@
 -- Facts about the value of a result.
-use Rattle.std.proofs.Common.{◌≡◌, Bool, true, false, Result, Ok, Err, ap, refl, sym}
-use Rattle.std.specs.Prelude.{IfOk, IsErr, OnOk, OnErr, is_err}
+use Rattle.std.proofs.Common.{Result, Ok, Err}
+use Rattle.std.specs.Prelude.{IfOk, OnOk, OnErr}
 
 -- what follows for each value
 pub if_ok : {T E : Type 0} {P Q : T → Type 0} (r : Result T E) → ((x : T) → P x → Q x) → IfOk r P → IfOk r Q
@@ -21,9 +21,3 @@ on_ok_three (Err e) follows p q s = tt
 pub either_way : {T E : Type 0} {P Q R : Type 0} (r : Result T E) → (P → R) → (Q → R) → OnOk r P → OnErr r Q → R
 either_way (Ok x) f g p q = f p
 either_way (Err e) f g p q = g q
-
--- where an error would follow from it, it isn't so at Ok
-pub isnt_so : {T E : Type 0} (b : Bool) (r : Result T E) (x : T) → r ≡ Ok x → (b ≡ true → IsErr r) → b ≡ false
-isnt_so false r x e h = refl
-isnt_so true (Ok y) x e h = sym (h refl)
-isnt_so true (Err y) x e h = ap (λ k. is_err k) e

@@ -20,6 +20,7 @@ use verifier::laws::no_fault_where_well_kinded;
 use verifier::{VerifyFault, verify};
 
 /// The job of this JOB line, whose code is whole.
+#[tactic(auto, using(crate::proofs::FateLemmas::refused_with_none))]
 pub(crate) fn job_entry<A: Allocator + Copy>(
     alloc: A,
     head: JobHeader<JobName<A>>,

@@ -61,6 +61,7 @@ pub(crate) fn step<A: Allocator + Copy>(
 }
 
 /// A line before which there are only blank lines.
+#[tactic(auto, using(crate::proofs::StepLemmas::at_front))]
 fn step_at_front<A: Allocator + Copy>(
     alloc: A,
     ended: usize,
@@ -78,6 +79,7 @@ fn step_at_front<A: Allocator + Copy>(
 }
 
 /// A line between jobs.
+#[tactic(auto, using(crate::proofs::StepLemmas::turns_at_blank))]
 fn step_between<A: Allocator + Copy>(
     alloc: A,
     ended: usize,
@@ -120,6 +122,7 @@ fn step_at_job<A: Allocator + Copy>(
 }
 
 /// The line after a JOB line.
+#[tactic(auto, using(crate::proofs::StepLemmas::turns_at_signatures))]
 fn step_behind_head<A: Allocator + Copy>(
     alloc: A,
     region: usize,
@@ -142,6 +145,7 @@ fn step_behind_head<A: Allocator + Copy>(
 }
 
 /// The signatures of a job, whose first line has this number, before any line of them.
+#[tactic(auto, unfolding(crate::specs::Fates::limits_within))]
 fn signatures_part<A: Allocator + Copy>(
     alloc: A,
     region: usize,
@@ -159,6 +163,7 @@ fn signatures_part<A: Allocator + Copy>(
 }
 
 /// A line after `SIGNATURES`.
+#[tactic(auto, using(crate::proofs::StepLemmas::in_signatures))]
 fn step_in_signatures<A: Allocator + Copy>(
     alloc: A,
     head: JobHeader<JobName<A>>,
@@ -202,6 +207,7 @@ fn more_signatures<A: Allocator + Copy>(
 }
 
 /// The code of a job of these signatures, whose first line has this number, before any line of it.
+#[tactic(auto, unfolding(crate::specs::Fates::signatures_of, crate::specs::Fates::signed_program_of))]
 fn code_part<A: Allocator + Copy>(
     alloc: A,
     part: Part<SigReader<A>>,
@@ -225,6 +231,7 @@ fn code_part<A: Allocator + Copy>(
 }
 
 /// A line after `CODE`.
+#[tactic(auto, using(crate::proofs::StepLemmas::turns_at_end))]
 fn step_in_code<A: Allocator + Copy>(
     alloc: A,
     head: JobHeader<JobName<A>>,
@@ -292,6 +299,7 @@ pub(crate) fn step_through<A: Allocator + Copy>(
 }
 
 /// Takes more of the code. Once the code has a fault, no further line is read.
+#[tactic(auto, using(crate::proofs::FateLemmas::refused_with_more))]
 fn more_code<A: Allocator + Copy>(
     part: &mut Part<CodeReading<A>>,
     text: &[u8],

@@ -7,10 +7,3 @@ returns-in-Refused g c =
       name = head.name;
       fate = refused_with_none region job _ (rw c.in-Refused.is at shown);
     }
-
-pub returns-in_ok-fate-in-Reading : goal.returns-in_ok-fate-in-Reading
-returns-in_ok-fate-in-Reading g c =
-    λ region job head shown. record {
-      name = head.name;
-      fate = c.in_ok-fate-in-Reading.ensures region job head (rw c.in-Reading.is at shown);
-    }

@@ -1,13 +1,7 @@
 use Rattle.batch_reader.specs.Standings.{shown_line}
 use Rattle.batch_reader.proofs.Results.{if_ok}
-use Rattle.batch_reader.proofs.StepLemmas.{turns_of_code, turns_of_fresh}
+use Rattle.batch_reader.proofs.StepLemmas.{turns_of_code}
 use Rattle.batch_reader.proofs.step.step.Goals as goal
-
-pub returns-in-Fresh-clause-turns : goal.returns-in-Fresh-clause-turns
-returns-in-Fresh-clause-turns g c =
-    if_ok c.step_at_front.result (λ s turns. λ room standing shown has. turns_of_fresh c.args.region c.args.ended
-    (shown_line c.args.line) s (turns c.args.region) room standing (rw c.in-Fresh.is at shown) has)
-    c.step_at_front.ensures.turns
 
 pub returns-in-Code-clause-turns : goal.returns-in-Code-clause-turns
 returns-in-Code-clause-turns g c =

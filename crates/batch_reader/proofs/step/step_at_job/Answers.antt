@@ -1,5 +1,4 @@
-use Rattle.std.proofs.Common.{refl, ◌∙◌, subst, sym, List, ℕ}
-use Rattle.job_steps.specs.Jobs.{IsName}
+use Rattle.std.proofs.Common.{refl, ◌∙◌}
 use Rattle.batch_reader.proofs.StepLemmas.{turns_at_job, turns_at_last_job}
 use Rattle.batch_reader.proofs.step.step_at_job.Goals as goal
 
@@ -7,11 +6,6 @@ pub returns-then-ended-ge-MOST_JOBS-clause-turns : goal.returns-then-ended-ge-MO
 returns-then-ended-ge-MOST_JOBS-clause-turns g c =
     λ region room l has says. turns_at_last_job region c.args.ended room c.args.line l _ has says
     c.if-ended-ge-MOST_JOBS.true
-
-pub returns-clause-fits : goal.returns-clause-fits
-returns-clause-fits g c =
-    λ place. subst (λ (name : List ℕ). IsName name) (sym (c.from_vec-name.ensures
-    ∙ c.in_ok-from_slice.ensures.items)) c.args.job.named
 
 pub returns-clause-turns : goal.returns-clause-turns
 returns-clause-turns g c =

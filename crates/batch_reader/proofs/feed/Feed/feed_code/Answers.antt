@@ -1,4 +1,4 @@
-use Rattle.std.proofs.Common.{◌≡◌, arith, length, refl, vec_len}
+use Rattle.std.proofs.Common.{◌≡◌, arith, length, vec_len}
 use Rattle.batch_reader.proofs.FeedLemmas.{is_nil}
 use Rattle.batch_reader.proofs.RunLemmas.{code_has_come, nothing_comes_in}
 use Rattle.batch_reader.proofs.feed.Feed.feed_code.Goals as goal
@@ -17,6 +17,6 @@ returns-clause-fed g c =
     rw (← c.self.view_is) (
       c.code_run.result.0.text.now,
       c.code_run.ensures.parts,
-      λ before come. code_has_come _ c.code_run.result.0.text.now before held c.self.inside.lines c.take_code.new.self
-          none refl refl c.in_ok-take_code.ensures.taken come,
+      λ before come. code_has_come _ c.code_run.result.0.text.now before c.take_code.new.self none
+          c.in_ok-take_code.ensures.taken come,
     )

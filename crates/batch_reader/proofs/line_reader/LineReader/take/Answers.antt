@@ -12,8 +12,7 @@ returns-then-passes_over-clause-taken g c =
 pub returns-then-stays-clause-taken : goal.returns-then-stays-clause-taken
 returns-then-stays-clause-taken g c =
     rw (← c.self.view_is) (λ come stands. stands_taken _ come c.args.text.now c.heading_of-heading.result
-    (To c.step_inside.new.stage) _ _
-    (length c.self.inside.entries) c.self.inside.rule c.self.inside.stage c.step_inside.new.stage
-    c.step_inside.new.stage c.self.inside.entries refl refl refl c.heading_of-heading.ensures refl
+    (To c.step_inside.new.stage) c.self.inside.number _ _ (length c.self.inside.entries) c.self.inside.rule
+    c.step_inside.new.stage c.self.inside.entries refl refl refl c.heading_of-heading.ensures
     (λ room standing. c.in_default.ensures.turns c.self.inside.region (length c.self.inside.entries) room standing)
     (refl, refl) stands)
