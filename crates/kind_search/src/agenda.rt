@@ -15,11 +15,10 @@ pub(crate) struct Agenda<A: Allocator> {
 impl<A: Allocator> Agenda<A> {
     /// All functions.
     pub(crate) fn all(alloc: A, graph: &CallGraph<A>) -> Result<Agenda<A>, AllocError> {
-        let mut listed = Vec::with_capacity(alloc, graph.len())?;
-        for _ in 0..graph.len() {
-            listed.push(true)?;
-        }
-        Ok(Agenda { listed, first: 0 })
+        Ok(Agenda {
+            listed: vec![in alloc; true; graph.len()]?,
+            first: 0,
+        })
     }
 
     /// Adds a function.

@@ -53,10 +53,7 @@ impl<A: Allocator> CallGraph<A> {
 
 /// The place of each function in an order of all.
 fn ranks_of<A: Allocator>(alloc: A, order: &[usize]) -> Result<Vec<usize, A>, AllocError> {
-    let mut ranks = Vec::with_capacity(alloc, order.len())?;
-    for _ in order {
-        ranks.push(0)?;
-    }
+    let mut ranks = vec![in alloc; 0; order.len()]?;
     for (rank, function) in order.iter().enumerate() {
         if let Some(known) = ranks.get_mut(*function) {
             *known = rank;
@@ -127,13 +124,9 @@ fn callees_first<A: Allocator + Copy>(
 impl<'a, A: Allocator + Copy> Search<'a, A> {
     /// No function was entered.
     fn new(alloc: A, program: &'a Program<A>) -> Result<Search<'a, A>, AllocError> {
-        let mut seen = Vec::with_capacity(alloc, program.functions().len())?;
-        for _ in program.functions() {
-            seen.push(false)?;
-        }
         Ok(Search {
             program,
-            seen,
+            seen: vec![in alloc; false; program.functions().len()]?,
             entered: Vec::new(alloc),
             left: Vec::new(alloc),
         })

@@ -1,11 +1,12 @@
 //! Which kinds are equal.
 
+use crate::fault::PathFault;
 use std::alloc::{AllocError, Allocator};
 use vcode_base::Kind;
 
 /// The number of a kind: one of a [`Kind`] that is known, or of one that is open.
 #[derive(Clone, Copy, PartialEq, Eq)]
-pub(crate) struct KindId(pub u32);
+pub struct KindId(pub u32);
 
 impl KindId {
     /// How many numbers are those of kinds that are known. They are the least.
@@ -48,6 +49,15 @@ impl<A: Allocator> Classes<A> {
         Ok(Classes {
             parents: (0..count).collect(alloc)?,
         })
+    }
+
+    /// Adds numbers of the kinds that are known, in the order of the least numbers. Answers the first.
+    pub(crate) fn add_known(&mut self) -> Result<u32, PathFault> {
+        let Ok(first) = u32::try_from(self.parents.len()) else {
+            return Err(PathFault::ManyEntries);
+        };
+        self.parents.extend_from_slice(&[0, 1, 2])?;
+        Ok(first)
     }
 
     #[inline]

@@ -1,6 +1,7 @@
 //! Why a search finds no signatures.
 
 use crate::classes::KindId;
+use crate::stacks::Stack;
 use std::alloc::{AllocError, AllocFailed, Allocator};
 use vcode_reader::Program;
 use verifier::KindFault;
@@ -80,28 +81,16 @@ impl<T: Drop> From<AllocFailed<T>> for PlacedFault {
     }
 }
 
-/// Why a walk that counts entries can't go on.
-#[derive(Drop)]
-pub(crate) enum HeightFault {
-    Memory,
-    /// A path takes more entries than a function may have operands.
-    ManyOperands,
-}
-
-impl From<AllocError> for HeightFault {
-    fn from(_: AllocError) -> HeightFault {
-        HeightFault::Memory
-    }
-}
-
 /// Why a walk by kinds can't go on.
 #[derive(Drop)]
-pub(crate) enum PathFault {
+pub enum PathFault {
     Memory,
     /// This entry is of another kind than is asked for.
     OtherKind(KindId),
     /// There may be no more entries.
     ManyEntries,
+    /// The parts of an IF leave these, which differ.
+    PartsDiffer(Stack, Stack),
     Refused(KindFault),
 }
 

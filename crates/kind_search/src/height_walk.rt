@@ -1,6 +1,6 @@
 //! A walk through a body that counts entries.
 
-use crate::fault::HeightFault;
+use crate::fault::{Obstacle, PlacedFault};
 use crate::paths::Paths;
 use std::alloc::{AllocError, Allocator};
 use vcode_base::limits::MOST_KINDS;
@@ -19,53 +19,6 @@ pub(crate) struct Call {
     pub line: u64,
 }
 
-/// The calls of a body: the lowest of each function that it calls.
-#[derive(Drop)]
-pub(crate) struct CallList<A: Allocator> {
-    calls: Vec<Call, A>,
-    /// For each function where its call is, if it has one.
-    slots: Vec<usize, A>,
-}
-
-impl<A: Allocator + Copy> CallList<A> {
-    /// No call of any of these functions.
-    pub(crate) fn new(alloc: A, functions: usize) -> Result<CallList<A>, AllocError> {
-        let mut slots = Vec::with_capacity(alloc, functions)?;
-        for _ in 0..functions {
-            slots.push(0)?;
-        }
-        Ok(CallList {
-            calls: Vec::new(alloc),
-            slots,
-        })
-    }
-}
-
-impl<A: Allocator> CallList<A> {
-    /// Forgets all calls.
-    pub(crate) fn clear(&mut self) {
-        self.calls.clear();
-    }
-
-    /// Adds a call.
-    fn add(&mut self, call: Call) -> Result<(), AllocError> {
-        let Some(slot) = self.slots.get_mut(call.callee) else {
-            return Ok(());
-        };
-        if let Some(known) = self.calls.get_mut(*slot) {
-            if known.callee == call.callee {
-                if call.height < known.height {
-                    *known = call;
-                }
-                return Ok(());
-            }
-        }
-        *slot = self.calls.len();
-        self.calls.push(call)?;
-        Ok(())
-    }
-}
-
 /// What a walk through a body has found.
 #[derive(Drop)]
 pub(crate) struct Reach<A: Allocator> {
@@ -73,7 +26,7 @@ pub(crate) struct Reach<A: Allocator> {
     pub end: Option<usize>,
     /// The lowest height of a path.
     pub lowest: usize,
-    /// The calls of functions that are known to return.
+    /// The calls of functions that are known to return: the lowest of each function.
     pub calls: Vec<Call, A>,
     /// The function at whose CALL a path ended last, if one did.
     pub waits_for: Option<usize>,
@@ -91,12 +44,16 @@ impl<A: Allocator> Reach<A> {
     }
 }
 
-/// A walk through a body. A path is its height.
+/// Walks through bodies, one after the other. A path is its height.
 #[derive(Drop)]
 pub(crate) struct HeightWalk<A: Allocator> {
+    /// The place of the function, and the line.
+    function: usize,
+    line: u64,
     paths: Paths<usize, A>,
-    lowest: usize,
-    waits_for: Option<usize>,
+    found: Reach<A>,
+    /// For each function where its call is among those that were found, if it has one.
+    slots: Vec<usize, A>,
 }
 
 /// The height after an IF whose parts end so. The path ends if the two differ.
@@ -107,14 +64,37 @@ fn joined(first: Option<usize>, second: Option<usize>) -> Option<usize> {
     }
 }
 
+impl<A: Allocator + Copy> HeightWalk<A> {
+    /// A walk in none of this number of functions.
+    pub(crate) fn new(alloc: A, functions: usize) -> Result<HeightWalk<A>, AllocError> {
+        Ok(HeightWalk {
+            function: 0,
+            line: 0,
+            paths: Paths::new(alloc),
+            found: Reach::new(alloc),
+            slots: vec![in alloc; 0; functions]?,
+        })
+    }
+
+    /// What the walk has found after the last line of a body.
+    pub(crate) fn reach(&self, alloc: A) -> Result<Reach<A>, AllocError> {
+        Ok(Reach {
+            end: self.paths.path,
+            lowest: self.found.lowest,
+            calls: Vec::from_slice(alloc, self.found.calls.as_slice())?,
+            waits_for: self.found.waits_for,
+        })
+    }
+}
+
 impl<A: Allocator> HeightWalk<A> {
-    /// A walk that begins.
-    pub(crate) fn new(alloc: A) -> HeightWalk<A> {
-        HeightWalk {
-            paths: Paths::new(alloc, BEGIN),
-            lowest: BEGIN,
-            waits_for: None,
-        }
+    /// The walk through the body of the function at this place begins.
+    pub(crate) fn begin(&mut self, function: usize) {
+        self.function = function;
+        self.paths.begin(BEGIN);
+        self.found.lowest = BEGIN;
+        self.found.calls.clear();
+        self.found.waits_for = None;
     }
 
     /// A line of the body, with the place of the function that it calls, if it calls one that is there. `ends` has the
@@ -127,13 +107,13 @@ impl<A: Allocator> HeightWalk<A> {
     /// A path takes more entries than a signature may have operands.
     pub(crate) fn step(
         &mut self,
-        calls: &mut CallList<A>,
         ends: &[Option<usize>],
         callee: Option<usize>,
         line: &CodeLine<'_>,
-    ) -> Result<(), HeightFault> {
+    ) -> Result<(), PlacedFault> {
+        self.line = line.number;
         match &line.item {
-            CodeItem::Do(Instr::Call(_)) => self.call(calls, ends, callee, line.number),
+            CodeItem::Do(Instr::Call(_)) => self.call(ends, callee),
             CodeItem::Do(instruction) => self.run(instruction),
             CodeItem::If => {
                 self.change(1, 0)?;
@@ -145,14 +125,14 @@ impl<A: Allocator> HeightWalk<A> {
             }
             CodeItem::Endif => {
                 let (first, second) = self.paths.end_if();
-                self.paths.set(joined(first, second));
+                self.paths.path = joined(first, second);
                 Ok(())
             }
         }
     }
 
     /// An instruction that calls nothing.
-    fn run(&mut self, instruction: &Instruction<'_>) -> Result<(), HeightFault> {
+    fn run(&mut self, instruction: &Instruction<'_>) -> Result<(), PlacedFault> {
         if let Instr::Move(motion, lower, upper) = instruction {
             let lower = usize::from(*lower);
             let moved = lower + usize::from(*upper);
@@ -167,59 +147,61 @@ impl<A: Allocator> HeightWalk<A> {
     }
 
     /// The path takes `takes` entries off and then puts `gives` on.
-    fn change(&mut self, takes: usize, gives: usize) -> Result<(), HeightFault> {
-        let Some(height) = self.paths.path() else {
+    fn change(&mut self, takes: usize, gives: usize) -> Result<(), PlacedFault> {
+        let Some(height) = self.paths.path else {
             return Ok(());
         };
         let Some(below) = height.checked_sub(takes) else {
-            return Err(HeightFault::ManyOperands);
+            return Err(self.many_operands());
         };
-        self.lowest = self.lowest.min(below);
-        self.paths.set(Some(below.saturating_add(gives)));
+        self.found.lowest = self.found.lowest.min(below);
+        self.paths.path = Some(below.saturating_add(gives));
         Ok(())
     }
 
     /// A CALL. The path ends if the function isn't known to return, or isn't there.
-    fn call(
-        &mut self,
-        calls: &mut CallList<A>,
-        ends: &[Option<usize>],
-        callee: Option<usize>,
-        line: u64,
-    ) -> Result<(), HeightFault> {
-        let Some(height) = self.paths.path() else {
-            return Ok(());
-        };
-        let Some(callee) = callee else {
-            self.paths.set(None);
+    fn call(&mut self, ends: &[Option<usize>], callee: Option<usize>) -> Result<(), PlacedFault> {
+        let (Some(height), Some(callee)) = (self.paths.path.take(), callee) else {
             return Ok(());
         };
         let Some(Some(end)) = ends.get(callee) else {
-            self.waits_for = Some(callee);
-            self.paths.set(None);
+            self.found.waits_for = Some(callee);
             return Ok(());
         };
-        calls.add(Call {
-            callee,
-            height,
-            line,
-        })?;
-        match height.saturating_add(*end).checked_sub(BEGIN) {
-            Some(height) => {
-                self.paths.set(Some(height));
-                Ok(())
-            }
-            None => Err(HeightFault::ManyOperands),
+        self.add_call(callee, height)?;
+        self.paths.path = height.saturating_add(*end).checked_sub(BEGIN);
+        match self.paths.path {
+            Some(_) => Ok(()),
+            None => Err(self.many_operands()),
         }
     }
 
-    /// What the walk has found after its last line, with these calls.
-    pub(crate) fn finish(self, alloc: A, calls: &CallList<A>) -> Result<Reach<A>, AllocError> {
-        Ok(Reach {
-            end: self.paths.path(),
-            lowest: self.lowest,
-            calls: Vec::from_slice(alloc, calls.calls.as_slice())?,
-            waits_for: self.waits_for,
-        })
+    /// Adds a call at this height.
+    fn add_call(&mut self, callee: usize, height: usize) -> Result<(), AllocError> {
+        let Some(slot) = self.slots.get_mut(callee) else {
+            return Ok(());
+        };
+        let line = self.line;
+        let call = Call {
+            callee,
+            height,
+            line,
+        };
+        if let Some(known) = self.found.calls.get_mut(*slot) {
+            if known.callee == callee {
+                if height < known.height {
+                    *known = call;
+                }
+                return Ok(());
+            }
+        }
+        *slot = self.found.calls.len();
+        self.found.calls.push(call)?;
+        Ok(())
+    }
+
+    /// That a path takes more entries than a signature may have operands.
+    fn many_operands(&self) -> PlacedFault {
+        PlacedFault::Function(Obstacle::ManyOperands, self.function, self.line)
     }
 }

@@ -2,8 +2,8 @@
 
 use crate::agenda::Agenda;
 use crate::call_graph::CallGraph;
-use crate::fault::{HeightFault, Obstacle, PlacedFault};
-use crate::height_walk::{BEGIN, Call, CallList, HeightWalk, Reach};
+use crate::fault::{Obstacle, PlacedFault};
+use crate::height_walk::{BEGIN, Call, HeightWalk, Reach};
 use std::alloc::{AllocError, Allocator};
 use vcode_base::limits::MOST_KINDS;
 use vcode_reader::{Function, Program};
@@ -21,8 +21,7 @@ pub(crate) struct Heights<'a, A: Allocator> {
     reaches: Vec<Reach<A>, A>,
     /// The functions that are to be walked through.
     agenda: Agenda<A>,
-    /// Room for the calls of a walk.
-    calls: CallList<A>,
+    walk: HeightWalk<A>,
     /// Whether each function was assumed to return.
     assumed: Vec<bool, A>,
     /// The first that was.
@@ -66,7 +65,7 @@ impl<'a, A: Allocator + Copy> Heights<'a, A> {
             ends: vec![in alloc; None; count]?,
             reaches: no_reaches(alloc, count)?,
             agenda: Agenda::all(alloc, graph)?,
-            calls: CallList::new(alloc, count)?,
+            walk: HeightWalk::new(alloc, count)?,
             assumed: vec![in alloc; false; count]?,
             first_assumed: None,
             first_waiting: 0,
@@ -119,7 +118,8 @@ impl<'a, A: Allocator + Copy> Heights<'a, A> {
 
     /// Walks through the body of the function at this place, and keeps what that shows.
     fn look_at(&mut self, place: usize, function: &Function<A>) -> Result<(), PlacedFault> {
-        let reach = self.walk(place, function)?;
+        self.walk_through(place, function)?;
+        let reach = self.walk.reach(self.alloc)?;
         let end = reach.end;
         if let Some(known) = self.reaches.get_mut(place) {
             *known = reach;
@@ -139,33 +139,14 @@ impl<'a, A: Allocator + Copy> Heights<'a, A> {
     }
 
     /// Walks through the body of the function at this place.
-    fn walk(&mut self, place: usize, function: &Function<A>) -> Result<Reach<A>, PlacedFault> {
-        let mut walk = HeightWalk::new(self.alloc);
-        match self.walk_on(&mut walk, place, function) {
-            Ok(()) => Ok(walk.finish(self.alloc, &self.calls)?),
-            Err(fault) => {
-                drop(walk);
-                Err(fault)
-            }
-        }
-    }
-
-    /// Goes by this walk, which has begun, through the body of the function at this place.
-    fn walk_on(
-        &mut self,
-        walk: &mut HeightWalk<A>,
-        place: usize,
-        function: &Function<A>,
-    ) -> Result<(), PlacedFault> {
-        self.calls.clear();
+    fn walk_through(&mut self, place: usize, function: &Function<A>) -> Result<(), PlacedFault> {
+        self.walk.begin(place);
         for at in 0..function.line_count() {
             let Some(line) = function.item(at) else {
                 break;
             };
             let callee = self.program.callee(place, at);
-            if let Err(fault) = walk.step(&mut self.calls, &self.ends, callee, &line) {
-                return Err(height_fault(fault, place, line.number));
-            }
+            self.walk.step(&self.ends, callee, &line)?;
         }
         Ok(())
     }
@@ -257,14 +238,4 @@ fn no_reaches<A: Allocator + Copy>(alloc: A, count: usize) -> Result<Vec<Reach<A
         reaches.push(Reach::new(alloc))?;
     }
     Ok(reaches)
-}
-
-/// The fault that ends a walk through a function at a line.
-fn height_fault(fault: HeightFault, function: usize, line: u64) -> PlacedFault {
-    match fault {
-        HeightFault::Memory => PlacedFault::Memory,
-        HeightFault::ManyOperands => {
-            PlacedFault::Function(Obstacle::ManyOperands, function, line)
-        }
-    }
 }

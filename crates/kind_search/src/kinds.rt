@@ -1,15 +1,15 @@
 //! The kinds of what each function takes and gives.
 
 use crate::call_graph::CallGraph;
-use crate::classes::{Classes, KindId};
+use crate::classes::KindId;
 use crate::fault::{Obstacle, PathFault, PlacedFault};
-use crate::paths::Paths;
+use crate::kind_walk::KindWalk;
 use crate::shapes::Shape;
-use crate::stacks::{Piece, Stack, Stacks};
+use crate::stacks::Piece;
 use signatures::FunctionType;
 use std::alloc::{AllocError, Allocator};
 use vcode_base::{Instr, Instruction, Kind};
-use vcode_reader::{CodeItem, CodeLine, Function, Program};
+use vcode_reader::{CodeItem, Function, Program};
 use verifier::KindFault;
 
 /// What a function takes and gives.
@@ -38,16 +38,7 @@ pub(crate) struct Kinds<'a, A: Allocator> {
     alloc: A,
     program: &'a Program<A>,
     functions: Vec<FunctionKinds, A>,
-    classes: Classes<A>,
-    stacks: Stacks<A>,
-}
-
-/// A walk through a body.
-#[derive(Drop)]
-struct KindWalk<A: Allocator> {
-    paths: Paths<Stack, A>,
-    /// For each open IF the fewest entries that its path had in the part of an IF around it.
-    lowest: Vec<usize, A>,
+    walk: KindWalk<A>,
 }
 
 /// The next `count` numbers of kinds.
@@ -104,8 +95,7 @@ impl<'a, A: Allocator + Copy> Kinds<'a, A> {
             alloc,
             program,
             functions,
-            classes: Classes::new(alloc, count)?,
-            stacks: Stacks::new(alloc, count, most_entries)?,
+            walk: KindWalk::new(alloc, count, most_entries)?,
         };
         match kinds.walk_all(graph) {
             Ok(()) => Ok(kinds),
@@ -129,69 +119,15 @@ impl<'a, A: Allocator + Copy> Kinds<'a, A> {
         Ok(())
     }
 
-    /// Walks through the body of the function at this place.
-    fn walk(&mut self, place: usize, function: &Function<A>) -> Result<(), PlacedFault> {
-        let mut walk = match self.begin(place) {
-            Ok(walk) => walk,
-            Err(fault) => return Err(self.fault_at(fault, place, None, function.line())),
-        };
-        let walked = self.walk_on(&mut walk, place, function);
-        drop(walk);
-        walked
-    }
-
-    /// Goes by this walk, which has begun, through the body of the function at this place.
-    fn walk_on(
-        &mut self,
-        walk: &mut KindWalk<A>,
-        place: usize,
-        function: &Function<A>,
-    ) -> Result<(), PlacedFault> {
-        let mut last = function.line();
-        for at in 0..function.line_count() {
-            let Some(line) = function.item(at) else {
-                break;
-            };
-            let callee = self.program.callee(place, at);
-            last = line.number;
-            if let Err(fault) = self.step(walk, callee, &line) {
-                return Err(self.fault_at(fault, place, callee, last));
-            }
-        }
-        match self.finish(place, walk) {
-            Ok(()) => Ok(()),
-            Err(fault) => Err(self.fault_at(fault, place, None, last)),
-        }
-    }
-
-    /// The walk through a body begins with its operands.
-    fn begin(&mut self, place: usize) -> Result<KindWalk<A>, PathFault> {
-        let operands = match self.functions.get(place) {
-            Some(function) => function.operands,
-            None => Piece { from: 0, count: 0 },
-        };
-        let stack = self.stacks.begin(operands)?;
-        Ok(KindWalk {
-            paths: Paths::new(self.alloc, stack),
-            lowest: Vec::new(self.alloc),
-        })
-    }
-
     /// What the function at this place takes and gives, with INT for kinds that are open.
     pub(crate) fn function_type(&mut self, place: usize) -> Result<FunctionType<A>, PlacedFault> {
-        match self.functions.get(place).copied() {
-            Some(
-                FunctionKinds {
-                    operands,
-                    results: Some(results),
-                    assumed: _,
-                },
-            ) => {
+        match self.arrow(place) {
+            Some((operands, results)) => {
                 let operands = self.kinds_of(operands)?;
                 let results = self.kinds_of(results.open)?;
                 Ok(FunctionType::new(operands, results))
             }
-            _ => Err(PlacedFault::of_function(Obstacle::NeverReturns, self.program, place)),
+            None => Err(PlacedFault::of_function(Obstacle::NeverReturns, self.program, place)),
         }
     }
 
@@ -200,7 +136,7 @@ impl<'a, A: Allocator + Copy> Kinds<'a, A> {
         let mut kinds = Vec::with_capacity(self.alloc, piece.count as usize)?;
         for place in 0..piece.count {
             let id = KindId(piece.from.saturating_add(place));
-            kinds.push(self.classes.kind(id))?;
+            kinds.push(self.walk.classes.kind(id))?;
         }
         Ok(kinds)
     }
@@ -215,119 +151,69 @@ impl<'a, A: Allocator> Kinds<'a, A> {
         }
     }
 
+    /// The operands and the results of the function at this place, if it is known to return.
+    fn arrow(&self, place: usize) -> Option<(Piece, Results)> {
+        let function = self.functions.get(place)?;
+        Some((function.operands, function.results?))
+    }
+
+    /// Walks through the body of the function at this place.
+    fn walk(&mut self, place: usize, function: &Function<A>) -> Result<(), PlacedFault> {
+        let Some(FunctionKinds { operands, .. }) = self.functions.get(place).copied() else {
+            return Ok(());
+        };
+        let mut last = function.line();
+        if let Err(fault) = self.walk.begin(operands) {
+            return Err(self.fault_at(fault, place, None, last));
+        }
+        for at in 0..function.line_count() {
+            let Some(line) = function.item(at) else {
+                break;
+            };
+            let callee = self.program.callee(place, at);
+            last = line.number;
+            if let Err(fault) = self.step(callee, &line.item) {
+                return Err(self.fault_at(fault, place, callee, last));
+            }
+        }
+        match self.finish(place) {
+            Ok(()) => Ok(()),
+            Err(fault) => Err(self.fault_at(fault, place, None, last)),
+        }
+    }
+
     /// A line of a body, with the place of the function that it calls, if it calls one.
     fn step(
         &mut self,
-        walk: &mut KindWalk<A>,
         callee: Option<usize>,
-        line: &CodeLine<'_>,
+        item: &CodeItem<Instruction<'_>>,
     ) -> Result<(), PathFault> {
-        match &line.item {
-            CodeItem::Do(Instr::Call(_)) => match callee {
-                Some(callee) => self.call(walk, callee),
-                None => Err(PathFault::Refused(KindFault::UnknownFunction)),
-            },
-            CodeItem::Do(instruction) => self.run(walk, instruction),
-            CodeItem::If => self.begin_if(walk),
-            CodeItem::Else => {
-                walk.paths.begin_else();
-                Ok(())
+        match (item, callee) {
+            (CodeItem::Do(Instr::Call(_)), Some(callee)) => self.call(callee),
+            (CodeItem::Do(Instr::Call(_)), None) => {
+                Err(PathFault::Refused(KindFault::UnknownFunction))
             }
-            CodeItem::Endif => self.end_if(walk),
+            _ => self.walk.step(item),
         }
-    }
-
-    /// An instruction that calls nothing.
-    fn run(
-        &mut self,
-        walk: &mut KindWalk<A>,
-        instruction: &Instruction<'_>,
-    ) -> Result<(), PathFault> {
-        let Some(mut stack) = walk.paths.path() else {
-            return Ok(());
-        };
-        if let Instr::Move(motion, lower, upper) = instruction {
-            self.stacks.shift(&mut stack, *motion, *lower, *upper)?;
-        } else {
-            let op = instruction.op();
-            self.stacks
-                .take_kinds(&mut self.classes, &mut stack, op.operand_kinds())?;
-            self.stacks.put_kinds(&mut stack, op.result_kinds())?;
-        }
-        walk.paths.set(Some(stack));
-        Ok(())
     }
 
     /// A CALL. The path ends if the function isn't known to return.
-    fn call(&mut self, walk: &mut KindWalk<A>, callee: usize) -> Result<(), PathFault> {
-        let Some(mut stack) = walk.paths.path() else {
-            return Ok(());
-        };
-        let Some(
-            FunctionKinds {
-                operands,
-                results: Some(results),
-                assumed: _,
-            },
-        ) = self.functions.get(callee).copied()
-        else {
-            walk.paths.set(None);
-            return Ok(());
-        };
-        self.stacks
-            .take_like(&mut self.classes, &mut stack, operands)?;
-        self.stacks.put(&mut stack, results.given)?;
-        walk.paths.set(Some(stack));
-        Ok(())
-    }
-
-    /// An IF.
-    fn begin_if(&mut self, walk: &mut KindWalk<A>) -> Result<(), PathFault> {
-        let mut lowest = 0;
-        if let Some(mut stack) = walk.paths.path() {
-            self.stacks
-                .take_kinds(&mut self.classes, &mut stack, &[Kind::Bool])?;
-            lowest = stack.lowest;
-            stack.lowest = stack.height;
-            walk.paths.set(Some(stack));
-        }
-        walk.lowest.push(lowest)?;
-        walk.paths.begin_if()?;
-        Ok(())
-    }
-
-    /// An ENDIF.
-    fn end_if(&mut self, walk: &mut KindWalk<A>) -> Result<(), PathFault> {
-        let lowest = walk.lowest.pop().unwrap_or(0);
-        let (first, second) = walk.paths.end_if();
-        if let Some(mut stack) = self.joined(first, second)? {
-            stack.lowest = stack.lowest.min(lowest);
-            walk.paths.set(Some(stack));
-        }
-        Ok(())
-    }
-
-    /// The path after an IF whose parts end so.
-    fn joined(
-        &mut self,
-        first: Option<Stack>,
-        second: Option<Stack>,
-    ) -> Result<Option<Stack>, PathFault> {
-        let (Some(one), Some(other)) = (first, second) else {
-            return Ok(first.or(second));
-        };
-        match self.stacks.join(&mut self.classes, one, other) {
-            Some(stack) => Ok(Some(stack)),
-            None => Err(PathFault::Refused(KindFault::ArmsDiffer)),
+    fn call(&mut self, callee: usize) -> Result<(), PathFault> {
+        match self.arrow(callee) {
+            Some((operands, results)) => self.walk.replace_piece(operands, results.given),
+            None => {
+                self.walk.end_path();
+                Ok(())
+            }
         }
     }
 
     /// The walk through the body of the function at this place has come to its end: the entries at RET are its results.
-    fn finish(&mut self, place: usize, walk: &KindWalk<A>) -> Result<(), PathFault> {
-        let Some(stack) = walk.paths.path() else {
+    fn finish(&mut self, place: usize) -> Result<(), PathFault> {
+        let Some(stack) = self.walk.path() else {
             return Ok(());
         };
-        let given = self.stacks.keep(stack)?;
+        let given = self.walk.stacks.keep(stack)?;
         let Some(function) = self.functions.get_mut(place) else {
             return Ok(());
         };
@@ -339,20 +225,17 @@ impl<'a, A: Allocator> Kinds<'a, A> {
             let operands = function.operands;
             self.give_back(operands, open, given);
         }
-        match self.stacks.unify(&mut self.classes, given, open) {
-            Ok(()) => Ok(()),
-            Err(entry) => Err(PathFault::OtherKind(entry)),
-        }
+        self.walk.stacks.unify(&mut self.walk.classes, given, open)
     }
 
     /// The results of a function that come from its own CALL are its operands, if they may be of equal kinds.
     fn give_back(&mut self, operands: Piece, open: Piece, given: Piece) {
         for place in 0..operands.count.min(open.count) {
             let result_kind = KindId(open.from.saturating_add(place));
-            let entry = self.stacks.entry(given.from.saturating_add(place));
-            if self.classes.are_equal(entry, result_kind) {
+            let entry = self.walk.stacks.entry(given.from.saturating_add(place));
+            if self.walk.classes.are_equal(entry, result_kind) {
                 let operand = KindId(operands.from.saturating_add(place));
-                let _ = self.classes.unify(operand, result_kind);
+                let _ = self.walk.classes.unify(operand, result_kind);
             }
         }
     }
@@ -377,9 +260,9 @@ impl<'a, A: Allocator> Kinds<'a, A> {
     fn decide(&mut self, operands: Piece, open: Piece) {
         for place in 0..operands.count.min(open.count) {
             let result_kind = KindId(open.from.saturating_add(place));
-            if self.classes.is_open(result_kind) {
+            if self.walk.classes.is_open(result_kind) {
                 let operand = KindId(operands.from.saturating_add(place));
-                let _ = self.classes.unify(operand, result_kind);
+                let _ = self.walk.classes.unify(operand, result_kind);
             }
         }
     }
@@ -395,6 +278,7 @@ impl<'a, A: Allocator> Kinds<'a, A> {
         match fault {
             PathFault::Memory => PlacedFault::Memory,
             PathFault::Refused(fault) => PlacedFault::Program(fault, line),
+            PathFault::PartsDiffer(..) => PlacedFault::Program(KindFault::ArmsDiffer, line),
             PathFault::ManyEntries => {
                 PlacedFault::Function(Obstacle::ManyEntries, function, line)
             }

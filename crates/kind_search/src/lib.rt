@@ -11,6 +11,8 @@
 //! 3. `kinds` walks once through each body on a stack of kinds. Those of operands are open at first. Instructions and
 //!    CALLs decide them. A kind that is open in the end may be any, and is INT.
 //!
+//! [`KindWalk`], by which `kinds` walks, serves also those who know all signatures, and ask which line made an entry.
+//!
 //! The contracts here say that the search is safe and ends, and nothing of what it finds.
 #![tactic(auto)]
 
@@ -21,6 +23,7 @@ mod fault;
 mod finder;
 mod height_walk;
 mod heights;
+mod kind_walk;
 mod kinds;
 mod paths;
 mod search;
@@ -28,5 +31,8 @@ mod shapes;
 mod stacks;
 mod text;
 
-pub use fault::{Obstacle, PlacedFault};
+pub use classes::KindId;
+pub use fault::{Obstacle, PathFault, PlacedFault};
+pub use kind_walk::KindWalk;
 pub use search::{Guess, make_guess};
+pub use stacks::Stack;

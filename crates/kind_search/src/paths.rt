@@ -6,28 +6,24 @@ use std::mem;
 /// A path through a body, and for each open IF the path of its other part. A path that has ended is None.
 #[derive(Drop)]
 pub(crate) struct Paths<P: Copy, A: Allocator> {
-    path: Option<P>,
+    pub path: Option<P>,
     /// For each open IF the path with which its other part begins, or with which it ended.
     others: Vec<Option<P>, A>,
 }
 
 impl<P: Copy, A: Allocator> Paths<P, A> {
-    /// This path, in no IF.
-    pub(crate) fn new(alloc: A, path: P) -> Paths<P, A> {
+    /// No path.
+    pub(crate) fn new(alloc: A) -> Paths<P, A> {
         Paths {
-            path: Some(path),
+            path: None,
             others: Vec::new(alloc),
         }
     }
 
-    /// The path, unless it has ended.
-    pub(crate) fn path(&self) -> Option<P> {
-        self.path
-    }
-
-    /// Goes on with this path, or ends.
-    pub(crate) fn set(&mut self, path: Option<P>) {
-        self.path = path;
+    /// Begins with this path, in no IF.
+    pub(crate) fn begin(&mut self, path: P) {
+        self.path = Some(path);
+        self.others.clear();
     }
 
     /// At an IF: both parts begin with the path.

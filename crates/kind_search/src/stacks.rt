@@ -48,13 +48,13 @@ struct Level {
 }
 
 /// The stack of a path.
-#[derive(Clone, Copy)]
-pub(crate) struct Stack {
+#[derive(Clone, Copy, Drop)]
+pub struct Stack {
     top: Level,
     /// How many entries it has.
-    pub height: usize,
+    pub(crate) height: usize,
     /// The fewest that it has had in the innermost part of an IF.
-    pub lowest: usize,
+    pub(crate) lowest: usize,
 }
 
 /// The entries and pieces of the stacks of all paths.
@@ -63,6 +63,8 @@ pub(crate) struct Stacks<A: Allocator> {
     /// The entries that are written out. Those before `kept` stay for all functions.
     entries: Vec<KindId, A>,
     kept: usize,
+    /// The place of the first of the three kinds that are put. It is 0 if the lines that put them aren't told apart.
+    pub(crate) known: u32,
     nodes: Vec<Node, A>,
     /// The pieces that are moved, from the top down.
     moved: Vec<Piece, A>,
@@ -78,6 +80,7 @@ impl<A: Allocator + Copy> Stacks<A> {
         Ok(Stacks {
             kept: entries.len(),
             entries,
+            known: 0,
             nodes: Vec::new(alloc),
             moved: Vec::new(alloc),
             most_entries,
@@ -103,6 +106,26 @@ impl<A: Allocator> Stacks<A> {
         self.put(&mut stack, piece)?;
         stack.lowest = stack.height;
         Ok(stack)
+    }
+
+    /// From now on the kinds that are put are the three numbers from this one on. All that is written out stays.
+    pub(crate) fn add_known(&mut self, first: u32) -> Result<(), PathFault> {
+        let place = self.entries.len();
+        if place >= MOST_WRITTEN {
+            return Err(PathFault::ManyEntries);
+        }
+        self.known = place as u32;
+        for id in first..first.saturating_add(KindId::KNOWN) {
+            self.entries.push(KindId(id))?;
+        }
+        self.kept = self.entries.len();
+        Ok(())
+    }
+
+    /// The place of a kind that is put.
+    #[inline]
+    fn place_of(&self, kind: Kind) -> u32 {
+        self.known.saturating_add(KindId::of(kind).0)
     }
 
     /// The entry that is written out at a place.
@@ -200,7 +223,7 @@ impl<A: Allocator> Stacks<A> {
     /// Puts kinds on a stack.
     pub(crate) fn put_kinds(&mut self, stack: &mut Stack, kinds: &[Kind]) -> Result<(), PathFault> {
         for kind in kinds {
-            let KindId(from) = KindId::of(*kind);
+            let from = self.place_of(*kind);
             self.put(stack, Piece { from, count: 1 })?;
         }
         Ok(())
@@ -241,9 +264,7 @@ impl<A: Allocator> Stacks<A> {
                 from,
                 count: piece.count,
             };
-            if let Err(entry) = self.unify(classes, *piece, part) {
-                return Err(PathFault::OtherKind(entry));
-            }
+            self.unify(classes, *piece, part)?;
             from = from.saturating_add(piece.count);
         }
         Ok(())
@@ -337,23 +358,19 @@ impl<A: Allocator> Stacks<A> {
     }
 
     /// Has the entries of two pieces be of one kind at each place.
-    ///
-    /// # Errors
-    ///
-    /// The first entry of the one piece that can't be.
     pub(crate) fn unify(
         &self,
         classes: &mut Classes<A>,
         one: Piece,
         other: Piece,
-    ) -> Result<(), KindId> {
+    ) -> Result<(), PathFault> {
         if one.from == other.from {
             return Ok(());
         }
         for place in 0..one.count.min(other.count) {
             let entry = self.entry(one.from.saturating_add(place));
             if !classes.unify(entry, self.entry(other.from.saturating_add(place))) {
-                return Err(entry);
+                return Err(PathFault::OtherKind(entry));
             }
         }
         Ok(())
@@ -385,34 +402,78 @@ impl<A: Allocator> Stacks<A> {
         })
     }
 
+    /// The stack after an IF whose parts end with these two, which are of equal kinds: if the lines that put kinds are
+    /// told apart, entries that differ become those that are put now.
+    pub(crate) fn merge(
+        &mut self,
+        classes: &mut Classes<A>,
+        one: Stack,
+        other: Stack,
+    ) -> Result<Stack, PathFault> {
+        let (mut stack, mut other) = (one, other);
+        let above = one.height.saturating_sub(one.lowest.min(other.lowest));
+        let ones = self.take_out(&mut stack, above)?;
+        let others = self.take_out(&mut other, above)?;
+        for place in 0..ones.count {
+            let at = ones.from.saturating_add(place);
+            self.merge_entry(classes, at, others.from.saturating_add(place));
+        }
+        self.put(&mut stack, ones)?;
+        Ok(stack)
+    }
+
+    /// The entry at the place `one` becomes that of its kind that is put now, unless it is the entry at the other.
+    fn merge_entry(&mut self, classes: &mut Classes<A>, one: u32, other: u32) {
+        let entry = self.entry(one);
+        if entry != self.entry(other) {
+            let merged = self.entry(self.place_of(classes.kind(entry)));
+            self.set_entry(one as usize, merged);
+        }
+    }
+
+    /// Takes `count` entries off a stack, and writes them out as one piece.
+    fn take_out(&mut self, stack: &mut Stack, count: usize) -> Result<Piece, PathFault> {
+        let Ok(count) = u32::try_from(count) else {
+            return Err(PathFault::ManyEntries);
+        };
+        self.moved.clear();
+        self.take(stack, count)?;
+        let all = self.moved.len();
+        self.written_out(0, all)
+    }
+
+    /// The entries of a stack, from the bottom up.
+    pub(crate) fn entries_of(&mut self, stack: Stack) -> Result<&[KindId], PathFault> {
+        let mut stack = stack;
+        let height = stack.height;
+        let piece = self.take_out(&mut stack, height)?;
+        Ok(self.entries.get(piece.from as usize..).unwrap_or(&[]))
+    }
+
     /// Keeps the entries of a stack for the walks through other bodies, as one piece.
     pub(crate) fn keep(&mut self, stack: Stack) -> Result<Piece, PathFault> {
         let mut stack = stack;
-        self.moved.clear();
-        let (Ok(from), Ok(count)) = (u32::try_from(self.kept), u32::try_from(stack.height)) else {
+        let Ok(from) = u32::try_from(self.kept) else {
             return Err(PathFault::ManyEntries);
         };
-        self.take(&mut stack, count)?;
-        let all = self.moved.len();
-        let written = self.written_out(0, all)?;
-        for place in 0..written.count {
-            let entry = self.entry(written.from.saturating_add(place));
-            self.keep_entry(entry);
+        let height = stack.height;
+        let written = self.take_out(&mut stack, height)?;
+        for place in written.from..written.from.saturating_add(written.count) {
+            let entry = self.entry(place);
+            self.set_entry(self.kept, entry);
+            self.kept = self.kept.saturating_add(1);
         }
-        let kept = self.kept;
-        self.entries.truncate(kept);
+        self.entries.truncate(self.kept);
         Ok(Piece {
             from,
             count: written.count,
         })
     }
 
-    /// Keeps one entry more, in the place of one that isn't kept.
-    fn keep_entry(&mut self, entry: KindId) {
-        let place = self.kept;
-        if let Some(kept) = self.entries.get_mut(place) {
-            *kept = entry;
-            self.kept = place.saturating_add(1);
+    /// Writes an entry in the place of another one.
+    fn set_entry(&mut self, place: usize, entry: KindId) {
+        if let Some(known) = self.entries.get_mut(place) {
+            *known = entry;
         }
     }
 }
