@@ -1,6 +1,6 @@
 //! What was expected where kinds don't fit.
 
-use crate::kind_walk::{Clash, Misfit, StackEntry, Wanted, misfit_of};
+use crate::kind_walk::{Clash, Misfit, NO_NAMES, StackEntry, Wanted, misfit_of};
 use crate::kinds::kind_text;
 use crate::lines::{Lines, printable};
 use crate::parts::Parts;
@@ -18,9 +18,6 @@ const MOST_ENTRIES: usize = 24;
 
 /// The most names that are shown.
 const MOST_NAMES: usize = 16;
-
-/// The names of what has none.
-const NO_NAMES: &[&str] = &[];
 
 /// The lines of a batch, and the parts of a job there.
 #[derive(Clone, Copy)]
