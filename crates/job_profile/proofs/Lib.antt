@@ -1,12 +1,11 @@
 pub mod Counted
-pub mod Drawn
 pub mod First
 pub mod Gone
 pub mod Lists
 pub mod Moved
+pub mod Moves
 pub mod Shown
 pub mod Stops
 pub mod Strips
 pub mod Turns
 pub mod Used
-pub mod Whole

@@ -1,10 +1,10 @@
 -- What a run keeps, in the words of its job's progress.
-use Rattle.std.proofs.Common.{add-one, ◌≡◌, ℕ, ℤ, ◌+◌, ◌<◌, ◌≤◌, suc, zero, Bool, true, false, List, [], ◌∷◌}
+use Rattle.std.proofs.Common.{add-one, ◌≡◌, ℕ, ℤ, ◌+◌, ◌<◌, suc, zero, Bool, true, false, List, [], ◌∷◌}
 use Rattle.std.proofs.Common.{length, map}
 use Rattle.std.proofs.Common.{Option, None, Some, slice_get, refl, sym, ◌∙◌, ap, subst, arith}
 use Rattle.std.proofs.lemmas.Bool.{false≢true}
 use Rattle.std.proofs.lemmas.List.Elements.{All-head, All-tail}
-use Rattle.std.proofs.lemmas.Option.{none-some, same_Some}
+use Rattle.std.proofs.lemmas.Option.{none-some, same_Some, slice_get_within}
 use Rattle.std.specs.Prelude.{◌↔◌, All}
 use Rattle.refcounts.specs.SharedState.{Slot, slot_at}
 use Rattle.job_memory.specs.JobBlocks.{JobBlocks, own_slots}
@@ -16,7 +16,7 @@ use Rattle.job_steps.specs.Runs.{executed_count_in, progress_from, state_after}
 use Rattle.job_steps.specs.Standings as standing
 use Rattle.job_steps.specs.Standings.{Standing, held_in, held_by}
 use Rattle.job_steps.specs.StepLaws.{CanBegin, StepsCanBegin}
-use Rattle.job_steps.specs.States.{Task, Active, StackEntry, State}
+use Rattle.job_steps.specs.States.{Task, Active, StackEntry}
 use Rattle.job_steps.specs.Steps.{Ending, Progress, Running, Over, Stuck}
 use Rattle.job_steps.specs.Tracks.{TrackState, functions_of}
 use Rattle.job_steps.specs.declared.frame.Frame.{Frame}
@@ -46,12 +46,6 @@ running_as slots task t o Live h a e = record { run = h; progress = h.running }
 running_as slots task t o InFlight h a e = absurd a
 running_as slots task t o Ended h a e = absurd (false≢true e)
 running_as slots task t o Collected h a e = absurd (false≢true e)
-
-pub running_at : (task : Task) (blocks : JobBlocks) (slot : SlotState) (desk : ℕ) → IsSound task blocks slot desk →
-    goes_on (progress_at task (standing_of slot)) ≡ true →
-    IsRunningAt (own_slots 1 blocks) task slot.trace (progress_at task (standing_of slot))
-running_at task blocks slot desk sound on =
-    running_as (own_slots 1 blocks) task slot.trace slot.outcome slot.status sound.shows.shown sound.admitted on
 
 -- ---- sizes
 
@@ -126,17 +120,7 @@ same_blocks slots ids stack h m n x y at_m at_n =
           sym first.2 ∙ both.1 (tags_are_same one two first.0.entry.tag second.0.entry.tag tag_m tag_n a) ∙ second.2,
     )
 
--- ---- sizes of a state
-
-pub calls_at : (task : Task) (blocks : JobBlocks) (slot : SlotState) (desk : ℕ) → IsSound task blocks slot desk →
-    goes_on (progress_at task (standing_of slot)) ≡ true →
-    length slot.trace.frames ≡ calls_in (progress_at task (standing_of slot))
-calls_at task blocks slot desk sound on =
-    let h = running_at task blocks slot desk sound on in
-    same_lengths (functions_of task.verified) slot.trace.frames h.run.state.calls h.run.at.frames
-    ∙ sym (ap calls_in h.progress)
-
--- ---- entries
+-- ---- in the words of a contract
 
 live_as : (task : Task) (s : Status) (n : ℕ) → IsAdmitted (standing_by s n) →
     goes_on (progress_at task (standing_by s n)) ≡ true → standing_by s n ≡ standing.Live n
@@ -146,156 +130,115 @@ live_as task InFlight n a e = absurd a
 live_as task Ended n a e = absurd (false≢true e)
 live_as task Collected n a e = absurd (false≢true e)
 
--- the block that the cell at a depth names has the words of the entry there
-pub list_at : ShownAreReached → (task : Task) (blocks : JobBlocks) (slot : SlotState) (desk : ℕ) →
-    IsSound task blocks slot desk → goes_on (progress_at task (standing_of slot)) ≡ true → (depth id : ℕ) →
-    slice_get slot.trace.cells depth ≡ Some id →
-    Some ((slot_at blocks.memory id).words) ≡ slice_get (lists_in (progress_at task (standing_of slot))) depth
-list_at law task blocks slot desk sound on depth id at =
-    let h = running_at task blocks slot desk sound on in
-    let live = live_as task slot.status slot.trace.executed sound.admitted on in
-    let picture = law 1 blocks task slot sound.shows slot.trace.executed live h.run.state h.run.running in
-    let words : ℕ → List ℤ = λ i. (slot_at blocks.memory i).words in
-    sym (ap (λ (p : Progress). slice_get (lists_in p) depth) h.progress
-    ∙ ap (λ (l : List (List ℤ)). slice_get l depth) (sym picture.words)
-    ∙ get_map words slot.trace.cells depth id at)
+-- a run goes on from a state that its slot shows
+module _ {task : Task} {blocks : JobBlocks} {slot : SlotState} {desk : ℕ} (sound : IsSound task blocks slot desk)
+    {r : RunState} (view : run_by task slot ≡ r) {b : Bool} (is : b ≡ goes_on (progress_of r)) (on : b ≡ true) where
+  live : goes_on (progress_at task (standing_of slot)) ≡ true
+  live = ap (λ (x : RunState). goes_on (progress_of x)) view ∙ sym is ∙ on
 
-pub copies_at : (task : Task) (blocks : JobBlocks) (slot : SlotState) (desk : ℕ) →
-    IsSound task blocks slot desk → goes_on (progress_at task (standing_of slot)) ≡ true → (m n x y : ℕ) →
-    slice_get slot.trace.cells m ≡ Some x → slice_get slot.trace.cells n ≡ Some y →
-    (x ≡ y) ↔ AreSame (slice_get (tags_in (progress_at task (standing_of slot))) m)
-    (slice_get (tags_in (progress_at task (standing_of slot))) n)
-copies_at task blocks slot desk sound on m n x y at_m at_n =
-    let h = running_at task blocks slot desk sound on in
-    subst (λ (p : Progress). (x ≡ y) ↔ AreSame (slice_get (tags_in p) m) (slice_get (tags_in p) n)) (sym h.progress)
-    (same_blocks (own_slots 1 blocks) slot.trace.cells h.run.state.stack h.run.holds m n x y at_m at_n)
+  pub here : IsRunningAt (own_slots 1 blocks) task slot.trace (progress_of r)
+  here =
+      subst (λ (x : RunState). IsRunningAt (own_slots 1 blocks) task slot.trace (progress_of x)) view
+      (running_as (own_slots 1 blocks) task slot.trace slot.outcome slot.status sound.shows.shown sound.admitted live)
 
-cell_count : (task : Task) (blocks : JobBlocks) (slot : SlotState) (desk : ℕ) → IsSound task blocks slot desk →
-    goes_on (progress_at task (standing_of slot)) ≡ true →
-    length slot.trace.cells ≡ cells_in (progress_at task (standing_of slot))
-cell_count task blocks slot desk sound on =
-    let h = running_at task blocks slot desk sound on in
-    h.run.at.cells ∙ sym (ap cells_in h.progress)
+  there : state_after task slot.trace.executed ≡ progress_of r
+  there = here.run.running ∙ sym here.progress
 
-there_is : {X : Type 0} (xs : List X) (n : ℕ) (x : X) → slice_get xs n ≡ Some x → n < length xs
-there_is [] n x e = absurd (none-some x e)
-there_is (y ∷ ys) zero x e = omega arith
-there_is (y ∷ ys) (suc n) x e = omega (arith, there_is ys n x e)
+  same_task : task ≡ r.task
+  same_task = ap (λ (x : RunState). x.task) view
 
--- the cell of an entry is there, and none of another
-pub cell_there : (task : Task) (blocks : JobBlocks) (slot : SlotState) (desk : ℕ) (r : RunState) →
-    IsSound task blocks slot desk → goes_on (progress_at task (standing_of slot)) ≡ true → run_by task slot ≡ r →
-    (depth id : ℕ) → slice_get slot.trace.cells depth ≡ Some id → depth < cells_in (progress_of r)
-cell_there task blocks slot desk r sound on view depth id at =
-    omega (
-      arith,
-      there_is slot.trace.cells depth id at,
-      cell_count task blocks slot desk sound on,
-      ap (λ (x : RunState). cells_in (progress_of x)) view,
-    )
+  pub calls_at : length slot.trace.frames ≡ calls_in (progress_of r)
+  calls_at =
+      same_lengths (functions_of task.verified) slot.trace.frames here.run.state.calls here.run.at.frames
+      ∙ sym (ap calls_in here.progress)
 
--- no entry is there once the run is over
-pub no_cells : (p : Progress) → goes_on p ≡ false → (depth : ℕ) → cells_in p ≤ depth
-no_cells (Running s) over depth = absurd (false≢true (sym over))
-no_cells (Over ending executed peak) over depth = omega arith
-no_cells Stuck over depth = omega arith
+  pub held_at : held_by task (standing_of slot) ≡ held_in (progress_of r)
+  held_at =
+      held_running task (standing_of slot) sound.admitted live ∙ ap (λ (x : RunState). held_in (progress_of x)) view
 
--- a job that goes on can begin its next step
-pub begins_at : StepsCanBegin ℕ → (task : Task) (blocks : JobBlocks) (slot : SlotState) (desk : ℕ)
-    (sound : IsSound task blocks slot desk) (on : goes_on (progress_at task (standing_of slot)) ≡ true) →
-    CanBegin task slot.trace.executed (running_at task blocks slot desk sound on).run.state slot.trace
-begins_at law task blocks slot desk sound on =
-    let run = (running_at task blocks slot desk sound on).run in
-    law sound.shows.verified.0 task sound.shows.verified.1 slot.trace.executed run.state slot.trace run.running run.at
+  -- the block that the cell at a depth names has the words of the entry there
+  pub list_at : ShownAreReached → (depth : ℕ) {id : ℕ} → slice_get slot.trace.cells depth ≡ Some id →
+      Some ((slot_at blocks.memory id).words) ≡ slice_get (lists_in (progress_of r)) depth
+  list_at law depth {id} at =
+      let is_live = live_as task slot.status slot.trace.executed sound.admitted live in
+      let picture =
+      law 1 blocks task slot sound.shows slot.trace.executed is_live here.run.state here.run.running in
+      let words : ℕ → List ℤ = λ i. (slot_at blocks.memory i).words in
+      sym (ap (λ (p : Progress). slice_get (lists_in p) depth) here.progress
+      ∙ ap (λ (l : List (List ℤ)). slice_get l depth) (sym picture.words)
+      ∙ get_map words slot.trace.cells depth id at)
 
--- the line of the next instruction, as the contract has it
-pub line_at : (task : Task) (blocks : JobBlocks) (slot : SlotState) (desk : ℕ) (sound : IsSound task blocks slot desk)
-    (on : goes_on (progress_at task (standing_of slot)) ≡ true) (call : Active) (outer : List Active) →
-    (running_at task blocks slot desk sound on).run.state.calls ≡ call ∷ outer →
-    next_line_in (progress_at task (standing_of slot)) ≡ Some (next_line call)
-line_at task blocks slot desk sound on call outer calls =
-    ap next_line_in (running_at task blocks slot desk sound on).progress ∙ ap first_next_line calls
+  pub copies_at : (m n : ℕ) {x y : ℕ} → slice_get slot.trace.cells m ≡ Some x → slice_get slot.trace.cells n ≡ Some y →
+      (x ≡ y) ↔ AreSame (slice_get (tags_in (progress_of r)) m) (slice_get (tags_in (progress_of r)) n)
+  copies_at m n {x} {y} at_m at_n =
+      subst (λ (p : Progress). (x ≡ y) ↔ AreSame (slice_get (tags_in p) m) (slice_get (tags_in p) n))
+      (sym here.progress)
+      (same_blocks (own_slots 1 blocks) slot.trace.cells here.run.state.stack here.run.holds m n x y at_m at_n)
 
--- ---- in the words of a contract
+  -- the cell of an entry is there
+  pub cell_there : {depth id : ℕ} → slice_get slot.trace.cells depth ≡ Some id → depth < cells_in (progress_of r)
+  cell_there {depth} {id} at =
+      omega (arith, slice_get_within slot.trace.cells depth id at, here.run.at.cells, ap cells_in here.progress)
 
-pub on_by : (task : Task) (slot : SlotState) (r : RunState) (b : Bool) → run_by task slot ≡ r →
-    b ≡ goes_on (progress_of r) → b ≡ true → goes_on (progress_at task (standing_of slot)) ≡ true
-on_by task slot r b view is on = ap (λ (x : RunState). goes_on (progress_of x)) view ∙ sym is ∙ on
+  -- a job that goes on can begin its next step
+  pub begins_at : StepsCanBegin ℕ → CanBegin task slot.trace.executed here.run.state slot.trace
+  begins_at law =
+      law sound.shows.verified.0 task sound.shows.verified.1 slot.trace.executed here.run.state slot.trace
+      here.run.running here.run.at
 
--- ---- what the next instruction holds and needs
+  pub line_at : {call : Active} {outer : List Active} → here.run.state.calls ≡ call ∷ outer →
+      next_line_in (progress_of r) ≡ Some (next_line call)
+  line_at calls = ap next_line_in here.progress ∙ ap first_next_line calls
 
--- an instruction is executed only if nothing ends the job before it
-pub goes_past : EarlyEndsEnd → (task : Task) (blocks : JobBlocks) (slot : SlotState) (desk : ℕ) →
-    IsSound task blocks slot desk → goes_on (progress_at task (standing_of slot)) ≡ true →
-    executed_count_in (progress_from task (progress_at task (standing_of slot)))
-    ≡ executed_count_in (progress_at task (standing_of slot)) + 1 → early_end_at task slot.trace.executed ≡ None
-unfolding early_end_at
-goes_past law task blocks slot desk sound on more =
-    let h = running_at task blocks slot desk sound on in
-    let runs : state_after task slot.trace.executed ≡ Running h.run.state = h.run.running in
-    ap (early_end_of task) runs
-    ∙ by h.run.state slot.trace.executed runs h.run.at.executed h.progress (early_end task h.run.state) refl
-  where
-    by : (s : State) (n : ℕ) → state_after task n ≡ Running s → n ≡ s.executed →
-        progress_at task (standing_of slot) ≡ Running s → (o : Option Ending) → early_end task s ≡ o →
-        early_end task s ≡ None
-    by s n runs count progress None is = is
-    by s n runs count progress (Some ending) is =
-        let over = (law sound.shows.verified.0 task sound.shows.verified.1 n s ending runs is).over in
-        let next : progress_from task (progress_at task (standing_of slot)) ≡ Over ending n s.peak =
-        ap (progress_from task) (progress ∙ sym runs) ∙ ap (state_after task) (sym (add-one n)) ∙ over in
-        absurd (omega (arith, ap executed_count_in next, ap executed_count_in progress, more, count))
+  -- an instruction is executed only if nothing ends the job before it
+  goes_past : EarlyEndsEnd → executed_count_in (progress_from r.task (progress_of r))
+      ≡ executed_count_in (progress_of r) + 1 → early_end_at task slot.trace.executed ≡ None
+  unfolding early_end_at
+  goes_past law more = ap (early_end_of task) here.run.running ∙ by (early_end task here.run.state) refl
+    where
+      by : (o : Option Ending) → early_end task here.run.state ≡ o → early_end task here.run.state ≡ None
+      by None none = none
+      by (Some ending) some =
+          let n = slot.trace.executed in
+          let ends =
+          law sound.shows.verified.0 task sound.shows.verified.1 n here.run.state ending here.run.running some in
+          let next : progress_from r.task (progress_of r) ≡ Over ending n here.run.state.peak =
+          (λ i. progress_from (sym same_task i) (sym there i)) ∙ ap (state_after task) (sym (add-one n)) ∙ ends.over in
+          absurd (omega (
+            arith,
+            ap executed_count_in next,
+            ap executed_count_in here.progress,
+            more,
+            here.run.at.executed,
+          ))
 
--- the demand there, in the words of the contract
-pub demand_there : (task : Task) (blocks : JobBlocks) (slot : SlotState) (desk words : ℕ) →
-    IsSound task blocks slot desk → goes_on (progress_at task (standing_of slot)) ≡ true →
-    words ≡ demand_in task.rule (state_after task slot.trace.executed) →
-    words ≡ demand_in task.rule (progress_at task (standing_of slot))
-demand_there task blocks slot desk words sound on is =
-    let h = running_at task blocks slot desk sound on in
-    is ∙ ap (demand_in task.rule) (h.run.running ∙ sym h.progress)
+  -- what the next instruction holds and needs, if it is executed
+  pub demand_at : EarlyEndsEnd → {words : ℕ} → (early_end_at task slot.trace.executed ≡ None →
+      words ≡ demand_in task.rule (state_after task slot.trace.executed)) →
+      executed_count_in (progress_from r.task (progress_of r)) ≡ executed_count_in (progress_of r) + 1 →
+      words ≡ demand_in r.task.rule (progress_of r)
+  demand_at law asked more = asked (goes_past law more) ∙ (λ i. demand_in (same_task i).rule (there i))
 
-pub demand_at : EarlyEndsEnd → (task : Task) (blocks : JobBlocks) (slot : SlotState) (desk words : ℕ) (r : RunState) →
-    IsSound task blocks slot desk → goes_on (progress_at task (standing_of slot)) ≡ true → run_by task slot ≡ r →
-    (early_end_at task slot.trace.executed ≡ None →
-    words ≡ demand_in task.rule (state_after task slot.trace.executed)) →
-    executed_count_in (progress_from r.task (progress_of r)) ≡ executed_count_in (progress_of r) + 1 →
-    words ≡ demand_in r.task.rule (progress_of r)
-demand_at law task blocks slot desk words r sound on view is more =
-    let here =
-    subst
-    (λ (x : RunState).
-    executed_count_in (progress_from x.task (progress_of x)) ≡ executed_count_in (progress_of x) + 1) (sym view) more in
-    subst (λ (x : RunState). words ≡ demand_in x.task.rule (progress_of x)) view
-    (demand_there task blocks slot desk words sound on (is (goes_past law task blocks slot desk sound on here)))
+  -- what is answered of it
+  pub told_at : {words : ℕ} → words ≡ told_demand_in task.rule (state_after task slot.trace.executed) →
+      words ≡ told_demand_in r.task.rule (progress_of r)
+  told_at told = told ∙ (λ i. told_demand_in (same_task i).rule (there i))
 
--- what is answered of it there, in the words of the contract
-pub told_at : (task : Task) (blocks : JobBlocks) (slot : SlotState) (desk words : ℕ) (r : RunState) →
-    IsSound task blocks slot desk → goes_on (progress_at task (standing_of slot)) ≡ true → run_by task slot ≡ r →
-    words ≡ told_demand_in task.rule (state_after task slot.trace.executed) →
-    words ≡ told_demand_in r.task.rule (progress_of r)
-told_at task blocks slot desk words r sound on view is =
-    let h = running_at task blocks slot desk sound on in
-    subst (λ (x : RunState). words ≡ told_demand_in x.task.rule (progress_of x)) view
-    (is ∙ ap (told_demand_in task.rule) (h.run.running ∙ sym h.progress))
+  -- and of its results
+  pub need_at : {words : ℕ} → words ≡ told_need_in (state_after task slot.trace.executed) →
+      words ≡ told_need_in (progress_of r)
+  need_at told = told ∙ ap told_need_in there
 
--- what is answered of its results there, in the words of the contract
-pub need_at : (task : Task) (blocks : JobBlocks) (slot : SlotState) (desk words : ℕ) (r : RunState) →
-    IsSound task blocks slot desk → goes_on (progress_at task (standing_of slot)) ≡ true → run_by task slot ≡ r →
-    words ≡ told_need_in (state_after task slot.trace.executed) → words ≡ told_need_in (progress_of r)
-need_at task blocks slot desk words r sound on view is =
-    let h = running_at task blocks slot desk sound on in
-    subst (λ (x : RunState). words ≡ told_need_in (progress_of x)) view
-    (is ∙ ap told_need_in (h.run.running ∙ sym h.progress))
+-- nothing is there once the run is over
+pub record IsNothing (rule : Rule) (p : Progress) : Type 0 where
+  pub line : next_line_in p ≡ None
+  pub held : held_in p ≡ 0
+  pub cells : cells_in p ≡ 0
+  pub need : 0 ≡ told_need_in p
+  pub demand : 0 ≡ told_demand_in rule p
 
--- nothing is needed once the run is over
-pub nothing_needed : (p : Progress) → goes_on p ≡ false → 0 ≡ told_need_in p
-nothing_needed (Running s) over = absurd (false≢true (sym over))
-nothing_needed (Over ending executed peak) over = refl
-nothing_needed Stuck over = refl
-
--- nothing is asked once the run is over
-pub nothing_told : (rule : Rule) (p : Progress) → goes_on p ≡ false → 0 ≡ told_demand_in rule p
-nothing_told rule (Running s) over = absurd (false≢true (sym over))
-nothing_told rule (Over ending executed peak) over = refl
-nothing_told rule Stuck over = refl
+pub nothing : (rule : Rule) (p : Progress) → goes_on p ≡ false → IsNothing rule p
+nothing rule (Running s) over = absurd (false≢true (sym over))
+nothing rule (Over ending executed peak) over =
+    record { line = refl; held = refl; cells = refl; need = refl; demand = refl }
+nothing rule Stuck over = record { line = refl; held = refl; cells = refl; need = refl; demand = refl }

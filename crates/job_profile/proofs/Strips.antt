@@ -1,7 +1,7 @@
 -- Columns after an instruction, and after each two became one.
 use Rattle.std.proofs.Common.{◌≡◌, ◌≢◌, ℕ, zero, suc, ◌+◌, ◌-◌, ◌*◌, ◌/◌, ◌<◌, ◌≤◌, ◌^◌, Bool, cond, ltb}
 use Rattle.std.proofs.Common.{List, [], ◌∷◌, ◌++◌}
-use Rattle.std.proofs.Common.{length, take, get_or, max, min, refl, sym, ◌∙◌, ap, subst, inl, inr, arith, add-one}
+use Rattle.std.proofs.Common.{length, take, get_or, max, min, refl, sym, ◌∙◌, ap, inl, inr, arith, add-one}
 use Rattle.std.proofs.Common.{add-mul, mul-add, mul_comm, one-mul, pow-suc, length-append, length-set}
 use Rattle.std.proofs.Common.{get_or-set_same, get_or-set_other, get_or-take, ext_get_or, length-take-le}
 use Rattle.std.proofs.Math.ListN.{set}
@@ -35,8 +35,7 @@ over_split of a m zero =
 over_split of a m (suc n) =
     let less : m + suc n ≡ suc (m + n) = omega arith in
     let place : a + suc (m + suc n) ≡ (a + suc m) + suc n = omega arith in
-    ap (λ (k : ℕ). joined (column_over of a k) (of (a + suc (m + suc n)))) less
-    ∙ ap (λ (k : ℕ). joined (column_over of a (suc (m + n))) (of k)) place
+    (λ i. joined (column_over of a (less i)) (of (place i)))
     ∙ ap (λ (c : Column). joined c (of ((a + suc m) + suc n))) (over_split of a m n)
     ∙ joined_assoc (column_over of a m) (column_over of (a + suc m) n) (of ((a + suc m) + suc n))
 
@@ -59,21 +58,16 @@ highest_halved (a ∷ b ∷ cs) = omega (arith, highest_halved cs)
 
 -- ---- each two as one
 
-double_suc : (i : ℕ) → suc i + suc i ≡ suc (suc (i + i))
-double_suc i = omega arith
-
 pub get_halved : (cs : List Column) (i : ℕ) → i + i + 1 < length cs →
     get_or (halved cs) i no_column ≡ joined (get_or cs (i + i) no_column) (get_or cs (i + i + 1) no_column)
 get_halved [] i h = absurd (omega arith)
 get_halved (a ∷ []) i h = absurd (omega arith)
 get_halved (a ∷ b ∷ cs) zero h = refl
 get_halved (a ∷ b ∷ cs) (suc i) h =
+    let even : suc (suc (i + i)) ≡ suc i + suc i = omega arith in
+    let odd : suc (suc (i + i + 1)) ≡ suc i + suc i + 1 = omega arith in
     get_halved cs i (omega arith)
-    ∙ ap (λ (k : ℕ). joined (get_or (a ∷ b ∷ cs) k no_column) (get_or cs (i + i + 1) no_column)) (sym (double_suc i))
-    ∙ ap (λ (k : ℕ). joined (get_or (a ∷ b ∷ cs) (suc i + suc i) no_column) (get_or (a ∷ b ∷ cs) k no_column)) next
-  where
-    next : suc (suc (i + i + 1)) ≡ suc i + suc i + 1
-    next = omega arith
+    ∙ (λ j. joined (get_or (a ∷ b ∷ cs) (even j) no_column) (get_or (a ∷ b ∷ cs) (odd j) no_column))
 
 pub length_halved : (cs : List Column) (h : ℕ) → length cs ≡ h + h → length (halved cs) ≡ h
 length_halved [] h e = omega arith
@@ -112,7 +106,7 @@ twice x = omega arith
 rows_le : (i k each : ℕ) → i ≤ k → i * each ≤ k * each
 rows_le i k each h = mul-le i each k each h (omega arith)
 
-module _ (of : ℕ → Column) (n : ℕ) (cs : List Column) (each room : ℕ) (s : IsStrip of n cs each room) where
+module _ {of : ℕ → Column} {n : ℕ} {cs : List Column} {each room : ℕ} (s : IsStrip of n cs each room) where
   -- a column that is followed by another is whole
   ends : (i : ℕ) → i + 1 < length cs → i * each + each ≤ n
   ends i h =
@@ -203,8 +197,7 @@ module _ (of : ℕ → Column) (n : ℕ) (cs : List Column) (each room : ℕ) (s
           ap (λ (k : ℕ). get_or (set cs (length cs - 1) new) k no_column) last
           ∙ get_or-set_same cs (length cs - 1) new no_column (omega arith)
           ∙ ap (λ (k : ℕ). joined (get_or cs k no_column) (of n)) (sym last)
-          ∙ ap (λ (c : Column). joined c (of n)) (s.means i (omega arith))
-          ∙ ap (λ (k : ℕ). joined (column_of of each n i) (of k)) (sym place)
+          ∙ (λ j. joined (s.means i (omega arith) j) (of (sym place j)))
           ∙ sym (ap (column_over of (i * each)) more)
 
   -- each two became one
@@ -259,19 +252,7 @@ module _ (of : ℕ → Column) (n : ℕ) (cs : List Column) (each room : ℕ) (s
           let both : min (each * 2) (n - i * (each * 2)) - 1 ≡ suc ((each - 1) + (each - 1)) = omega arith in
           let place : (i + i + 1) * each ≡ (i + i) * each + suc (each - 1) = omega arith in
           get_halved cs i inside
-          ∙ ap (λ (c : Column). joined c (get_or cs (i + i + 1) no_column)) (s.means (i + i) (omega arith))
-          ∙ ap (λ (c : Column). joined (column_of of each n (i + i)) c) (s.means (i + i + 1) inside)
-          ∙ ap (λ (k : ℕ). joined (column_over of ((i + i) * each) k) (column_of of each n (i + i + 1))) one
-          ∙ ap (λ (k : ℕ). joined (column_over of ((i + i) * each) (each - 1)) (column_over of ((i + i + 1) * each) k))
-          other
-          ∙ ap (λ (k : ℕ). joined (column_over of ((i + i) * each) (each - 1)) (column_over of k (each - 1))) place
+          ∙ (λ j. joined (s.means (i + i) (omega arith) j) (s.means (i + i + 1) inside j))
+          ∙ (λ j. joined (column_over of ((i + i) * each) (one j)) (column_over of (place j) (other j)))
           ∙ sym (over_split of ((i + i) * each) (each - 1) (each - 1))
-          ∙ ap (λ (k : ℕ). column_over of k (suc ((each - 1) + (each - 1)))) (sym begins)
-          ∙ sym (ap (column_over of (i * (each * 2))) both)
-
--- the same under other names
-pub strip_as : (of : ℕ → Column) (n : ℕ) (cs cs' : List Column) (each each' room room' : ℕ) → cs' ≡ cs → each' ≡ each →
-    room' ≡ room → IsStrip of n cs each room → IsStrip of n cs' each' room'
-strip_as of n cs cs' each each' room room' c e r s =
-    subst (λ (x : List Column). IsStrip of n x each' room') (sym c)
-    (subst (λ (x : ℕ). IsStrip of n cs x room') (sym e) (subst (λ (x : ℕ). IsStrip of n cs each x) (sym r) s))
+          ∙ (λ j. column_over of (sym begins j) (sym both j))

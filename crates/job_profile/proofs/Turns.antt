@@ -30,9 +30,9 @@ abbrev counts : Slot → ℕ
 counts slot = cond (nat_lt 0 slot.count) 1 0
 
 -- there are numbers for two blocks more
-pub numbers_left : ShownIsAlone → (task : Task) (blocks : JobBlocks) (slot : SlotState) (desk : ℕ) →
+pub numbers_left : ShownIsAlone → {task : Task} {blocks : JobBlocks} {slot : SlotState} {desk : ℕ} →
     IsSound task blocks slot desk → IsTidy blocks.memory → block_count blocks.memory + 2 ≤ length blocks.memory.slots
-numbers_left alone task blocks slot desk sound tidy =
+numbers_left alone {task} {blocks} {slot} sound tidy =
     omega (arith, (alone 1 blocks task slot tidy sound.shows).few, sound.counted, sound.numbers)
 
 -- ---- the end of a run
@@ -111,8 +111,8 @@ stays_over task before after answer none over same admitted =
       on = none ∙ sym (ap goes_on now);
     }
 
-module _ (alone : ShownIsAlone) (ended : EndedAreOver) (task : Task) (old new : JobBlocks) (before after : SlotState)
-    (desk : ℕ) (sound : IsSound task old before desk) (tidy : IsTidy old.memory) (shows : Shows 1 new task after) where
+module _ (alone : ShownIsAlone) (ended : EndedAreOver) {task : Task} {old new : JobBlocks} {before after : SlotState}
+    {desk : ℕ} (sound : IsSound task old before desk) (tidy : IsTidy old.memory) (shows : Shows 1 new task after) where
   goes : (n : ℕ) → standing_of before ≡ standing.Live n → standing_of after ≡ standing.Live (n + 1) →
       HasStepped task (standing_of before) (standing_of after) stepped.Done
   goes n live next =

@@ -1,5 +1,6 @@
 pub mod Columns
 pub mod Counts
+pub mod Moves
 pub mod Sound
 pub mod SoundRun
 pub mod Stops

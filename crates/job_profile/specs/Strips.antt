@@ -2,11 +2,7 @@
 use Rattle.std.specs.Prelude.{◌≡◌, ℕ, ◌+◌, ◌*◌, ◌<◌, ◌≤◌, ◌^◌, List, length, slice_index_or}
 use Rattle.job_profile.specs.declared.strip.Column.{Column}
 use Rattle.job_profile.specs.declared.strip.TheConstants.{MOST_COLUMNS}
-use Rattle.job_steps.specs.Reached.{IsVerifiedBySome}
-use Rattle.job_steps.specs.Runs.{state_after, executed_count_in, peak_in}
-use Rattle.job_steps.specs.States.{Task}
-use Rattle.job_steps.specs.Steps.{Progress}
-use Rattle.job_profile.specs.Columns.{AreFine, joined, no_column, column_at, column_of, highest}
+use Rattle.job_profile.specs.Columns.{AreFine, joined, no_column, column_of}
 
 -- the first half has each two as one
 pub record AreJoined (old new : List Column) : Type 0 where
@@ -27,13 +23,3 @@ pub record IsStrip (of : ℕ → Column) (n : ℕ) (columns : List Column) (each
   pub power : (k : ℕ) × (each ≡ 2 ^ k)
   pub fine : AreFine (n + 1) each
   pub means : (i : ℕ) → i < length columns → slice_index_or columns i no_column ≡ column_of of each n i
-
--- A verified job has come so far by a number of steps. The columns are those of its instructions, and the greatest is
--- its peak.
-pub record IsDrawn (task : Task) (p : Progress) (columns : List Column) (each room : ℕ) : Type 0 where
-  pub steps : ℕ
-  pub come : p ≡ state_after task steps
-  pub verified : IsVerifiedBySome task.verified
-  pub strip : IsStrip (column_at task) (executed_count_in p) columns each room
-  pub fine : AreFine (executed_count_in p) each
-  pub highest_is : highest columns ≡ peak_in p

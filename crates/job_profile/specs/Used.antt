@@ -2,20 +2,18 @@
 use Rattle.std.specs.Prelude.{◌≡◌, ℕ, ◌≤◌, Option, Some, None}
 use Rattle.vcode_base.specs.declared.limits.Limits.{Limits}
 use Rattle.job_steps.specs.LeastLimits.{IsReturn, RunAlike, calls_in, cells_in, most_until, with_limits}
-use Rattle.job_steps.specs.Reached.{IsVerifiedBySome}
-use Rattle.job_steps.specs.Runs.{executed_count_in, outcome, state_after}
+use Rattle.job_steps.specs.Runs.{executed_count_in, outcome}
 use Rattle.job_steps.specs.States.{Task}
 use Rattle.job_steps.specs.Steps.{Ending, Progress}
+use Rattle.job_profile.specs.Moves.{IsOnRun}
 
 -- the most of such a number before the first instruction, and after each of those that were executed so far
 abbrev pub most_so_far : (Progress → ℕ) → Task → Progress → ℕ
 most_so_far f task p = most_until f task (executed_count_in p)
 
--- A verified job has come here by a number of steps. Its most entries are `cells`, and its most calls are `calls`.
+-- a run here has this many entries and calls at most
 pub record AreUses (task : Task) (p : Progress) (cells calls : ℕ) : Type 0 where
-  pub steps : ℕ
-  pub come : p ≡ state_after task steps
-  pub verified : IsVerifiedBySome task.verified
+  pub on_run : IsOnRun task p
   pub cells_are : cells ≡ most_so_far cells_in task p
   pub calls_are : calls ≡ most_so_far calls_in task p
 

@@ -7,18 +7,15 @@
 //! `specs/Walks.antt` says what there is at a state, over the definitions of `job_steps`. `specs/SoundRun.antt` says
 //! when what a run keeps is that of its job.
 //!
-//! A [`Profile`] runs a job to its end, and counts on the way. `specs/Counts.antt` says what is counted, over the
-//! states of the job's run. `specs/Sound.antt` says when what a profile keeps is that of its run.
-//!
-//! [`Columns`] are a profile with the words that were held. `specs/Columns.antt` says what a column is, and
-//! `specs/Strips.antt` when what is kept is that of the run.
-//!
 //! [`Uses`] follows a run and knows the most words, entries and calls so far, and the least limits of a job that
 //! returned. `specs/Used.antt` has the definitions. It also goes on to the first state at which a [`Stop`] holds, which
-//! `specs/Stops.antt` defines.
+//! `specs/Stops.antt` defines. `specs/Moves.antt` says what a step makes of a run.
+//!
+//! A [`Profile`] runs a job to its end, and counts on the way: `specs/Counts.antt` says what, over the states of the
+//! job's run. It also has the words that were held, by columns: `specs/Columns.antt` says what a column is.
+//! `specs/Strips.antt` and `specs/Sound.antt` say when what a profile keeps is that of its run.
 #![tactic(auto)]
 
-mod columns;
 mod profile;
 mod run;
 mod stop;
@@ -26,7 +23,6 @@ mod strip;
 mod times;
 mod uses;
 
-pub use columns::Columns;
 pub use profile::Profile;
 pub use run::Run;
 pub use stop::Stop;

@@ -1,33 +1,39 @@
-//! The profile of a job.
+//! The profile of a job: how often its lines were executed, when it first held its peak, and the words that it held
+//! over time.
 
 ghost use Rattle.std.specs.Prelude.{◌≡◌, ℕ, nat_lt, if◌then◌else◌, IfOk, OnErr, OnOk, slice_index, sum};
 ghost use Rattle.job_steps.specs.Runs.{executed_count_in, peak_in, progress_from};
 ghost use Rattle.job_steps.specs.States.{ruled};
 ghost use Rattle.job_profile.specs.Walks.{HasCome, ending_at, ending_of, first_run, goes_on, progress_of};
+ghost use Rattle.job_profile.specs.Columns.{AreColumns, highest};
 ghost use Rattle.job_profile.specs.Counts.{IsFirstPeak, line_in, times_of, times_until};
 
-use crate::run::Run;
-use crate::times::{add, grow, part, sum_of};
+use crate::run::{Run, steps_move};
+use crate::strip::{Column, Strip};
+use crate::times::{count, grow, part, sum_of};
 use crate::uses::Uses;
 use job_steps::Job;
-use job_steps::laws::{early_ends_end, never_stuck, others_are_ready, reached};
 use std::alloc::{AllocError, Allocator};
 use std::marker::Model;
 use vcode_base::Rule;
 
-/// A run of one job alone, with how often each line was executed.
+/// A run of one job alone, with how often each line was executed, and with the words that it held over time.
 ///
-/// In a contract it is its run, from which the counts follow.
+/// The words are kept by columns, each of as many instructions that follow one another. There are never more than
+/// [`MOST_COLUMNS`](crate::MOST_COLUMNS): where one more would be, each two become one.
+///
+/// In a contract it is its run, from which the counts and the columns follow.
 #[derive(Drop)]
 pub struct Profile<A: Allocator> {
     uses: Uses<A>,
     times: Vec<u64, A>,
     peak_after: u64,
+    strip: Strip<A>,
 }
 
 impl<A: Allocator> Model for Profile<A> {
     ghost use Rattle.job_profile.specs.Walks.{RunState, progress_of};
-    ghost use Rattle.job_profile.specs.Sound.{IsCounted};
+    ghost use Rattle.job_profile.specs.Sound.{IsProfile};
 
     ghost Value = { RunState };
 
@@ -40,12 +46,13 @@ impl<A: Allocator> Model for Profile<A> {
 
     ghost view = { λ p. p.uses };
 
-    ghost invariant = { λ p. IsCounted p.uses.task (progress_of p.uses) p.times.items p.peak_after };
+    ghost invariant = { λ p. IsProfile p.uses.task (progress_of p.uses) p.times.items p.peak_after
+        p.strip.columns.items p.strip.each p.strip.room };
 }
 
 /// The number of the line of the next instruction, and 0 if the run is over.
 #[inline(always)]
-pub(crate) fn next_place<A: Allocator>(run: &Run<A>) -> usize
+fn next_place<A: Allocator>(run: &Run<A>) -> usize
     ensures { result ≡ line_in (progress_of run.now) }
 {
     match run.next_line() {
@@ -63,18 +70,21 @@ fn first_reached(before: usize, peak: usize, after: u64, executed: u64) -> u64
 }
 
 impl<A: Allocator + Clone> Profile<A> {
-    /// The profile of a job that hasn't executed anything. Takes memory for the run, and an error means that the
-    /// allocator refused it.
-    pub(crate) fn new(alloc: A, rule: Rule, job: Job<A>) -> Result<Profile<A>, AllocError>
+    /// The profile of a job that hasn't executed anything.
+    ///
+    /// Takes memory for the run and for all columns, and an error means that the allocator refused it.
+    pub fn new(alloc: A, rule: Rule, job: Job<A>) -> Result<Profile<A>, AllocError>
         ensures { IfOk result (λ profile. profile ≡ first_run (ruled rule job)) }
     {
         let _verified = job.verified();
+        let strip = Strip::new(alloc.clone()?)?;
         let times = Vec::new(alloc.clone()?);
         let uses = Uses::new(alloc, rule, job)?;
         Ok(Profile {
             uses,
             times,
             peak_after: 0,
+            strip,
         })
     }
 
@@ -83,7 +93,7 @@ impl<A: Allocator + Clone> Profile<A> {
     /// # Errors
     ///
     /// [`AllocError`] if memory for the results was refused. Nothing changes then.
-    pub(crate) fn collect(&mut self) -> Result<(), AllocError>
+    pub fn collect(&mut self) -> Result<(), AllocError>
         ensures run { HasCome self.old.task (progress_of self.old) self.new }
         ensures collected { OnOk result (ending_of self.new ≡ ending_at (progress_of self.old)) }
         ensures unchanged { OnErr result (self.new ≡ self.old) }
@@ -93,30 +103,37 @@ impl<A: Allocator + Clone> Profile<A> {
 }
 
 impl<A: Allocator> Profile<A> {
-    /// Executes the next instruction, whose line has this number, and counts it; true if the job goes on. A job whose
-    /// run is over stays as it is, and the number is 0.
+    /// Executes the next instruction, which is counted and goes into a column; true if the job goes on. A job whose run
+    /// is over stays as it is.
     ///
     /// # Errors
     ///
     /// [`AllocError`] if memory for the counts was refused. Nothing changes then.
     #[inline(always)]
-    pub(crate) fn step(&mut self, place: usize) -> Result<bool, AllocError>
-        requires { place ≡ line_in (progress_of self.old) }
+    pub fn step(&mut self) -> Result<bool, AllocError>
         ensures run { OnOk result
             (HasCome self.old.task (progress_from self.old.task (progress_of self.old)) self.new) }
         ensures goes_on { IfOk result (λ on. on ≡ goes_on (progress_of self.new)) }
         ensures unchanged { OnErr result (self.new ≡ self.old) }
     {
-        early_ends_end();
-        others_are_ready();
-        never_stuck();
-        reached();
-        grow(&mut self.times, place)?;
-        let (executed, peak) = (self.uses.executed(), self.uses.words());
+        steps_move();
+        let run = self.uses.run();
+        let (line, most, executed, peak) = (
+            next_place(run),
+            run.demand(),
+            run.executed(),
+            run.peak(),
+        );
+        grow(&mut self.times, line)?;
         let goes_on = self.uses.step();
-        let now = self.uses.executed();
-        add(&mut self.times, place, now - executed);
-        self.peak_after = first_reached(peak, self.uses.words(), self.peak_after, now);
+        let run = self.uses.run();
+        let (now, least) = (run.executed(), run.held());
+        if now == executed {
+            return Ok(goes_on);
+        }
+        self.peak_after = first_reached(peak, run.peak(), self.peak_after, now);
+        count(&mut self.times, line);
+        self.strip.add(Column { most, least, line });
         Ok(goes_on)
     }
 
@@ -135,7 +152,7 @@ impl<A: Allocator> Profile<A> {
     }
 
     /// The job, of which another run may be made.
-    pub(crate) fn into_job(self) -> Job<A>
+    pub fn into_job(self) -> Job<A>
         ensures { ruled self.task.rule result ≡ self.task }
     {
         self.uses.into_job()
@@ -163,5 +180,13 @@ impl<A: Allocator> Profile<A> {
         ensures { IsFirstPeak self.now.task (peak_in (progress_of self.now)) result }
     {
         self.peak_after
+    }
+
+    /// Of how many instructions each column is, and the columns. The last is of what is left.
+    pub fn columns(&self) -> (u64, &[Column])
+        ensures columns { AreColumns self.now.task (executed_count_in (progress_of self.now)) result.0 result.1.now }
+        ensures highest { highest result.1.now ≡ peak_in (progress_of self.now) }
+    {
+        (self.strip.each, self.strip.columns.as_slice())
     }
 }

@@ -7,6 +7,7 @@ ghost use Rattle.job_steps.specs.Runs.{executed_count_in, peak_in, progress_from
 ghost use Rattle.job_steps.specs.Standings.{held_in};
 ghost use Rattle.job_steps.specs.States.{ruled};
 ghost use Rattle.job_slots.specs.Answers.{demand_in, told_demand_in, told_need_in};
+ghost use Rattle.job_profile.specs.Moves.{StepsMove};
 ghost use Rattle.job_profile.specs.Walks.{AreSame, HasCome, StandAt, ending_at, ending_of, first_run, goes_on};
 ghost use Rattle.job_profile.specs.Walks.{does_move, does_move_in, lists_in, next_line_in, progress_of, tags_in};
 
@@ -14,7 +15,9 @@ use block_memory::BlockId;
 use job_memory::JobMemory;
 use job_slots::laws::{new_is_shown, shown_are_live, shown_are_reached, shown_is_alone};
 use job_slots::{Slot, Status, Turn};
-use job_steps::laws::{early_ends_end, ended_are_over, steps_can_begin};
+use job_steps::laws::{
+    early_ends_end, ended_are_over, never_stuck, others_are_ready, reached, steps_can_begin,
+};
 use job_steps::{Desk, Frames, Job};
 use std::alloc::{AllocError, Allocator};
 use std::marker::Model;
@@ -334,6 +337,16 @@ impl<A: Allocator> Run<A> {
     {
         self.job
     }
+}
+
+/// A step of a run executes an instruction, or ends the run with the same counts.
+pub(crate) fn steps_move()
+    ensures { StepsMove }
+{
+    early_ends_end();
+    others_are_ready();
+    never_stuck();
+    reached();
 }
 
 /// Whether an instruction moves entries or calls: it takes no operand and has no result.

@@ -17,14 +17,14 @@ pub(crate) fn grow<A: Allocator>(times: &mut Vec<u64, A>, place: usize) -> Resul
     Ok(())
 }
 
-/// Adds to the count at a place.
+/// Adds 1 to the count at a place.
 #[inline(always)]
-pub(crate) fn add(times: &mut [u64], place: usize, more: u64)
-    requires there { place < length times.old }
-    requires fits { slice_index times.old place + more < 2 ^ 64 }
-    ensures { times.new ≡ slice_set times.old place (slice_index times.old place + more) }
+pub(crate) fn count<A: Allocator>(times: &mut Vec<u64, A>, place: usize)
+    requires there { place < length times.old.items }
+    requires fits { slice_index times.old.items place + 1 < 2 ^ 64 }
+    ensures { times.new.items ≡ slice_set times.old.items place (slice_index times.old.items place + 1) }
 {
-    times[place] += more;
+    times[place] += 1;
 }
 
 /// The counts at `count` places from the first on, or as many as there are.

@@ -8,10 +8,10 @@ ghost use Rattle.job_profile.specs.Walks.{HasCome, HasGoneOn, ending_at, ending_
 ghost use Rattle.job_profile.specs.Stops.{IsStopped};
 ghost use Rattle.job_profile.specs.Used.{AreLeast, HasNotReturned, most_so_far};
 
-use crate::run::Run;
+use crate::run::{Run, steps_move};
 use crate::stop::{Stop, holds, left_after};
 use job_steps::Job;
-use job_steps::laws::{early_ends_end, never_stuck, others_are_ready, reached, used_are_least};
+use job_steps::laws::{reached, used_are_least};
 use std::alloc::{AllocError, Allocator};
 use std::marker::Model;
 use vcode_base::{Elements, Limits, Outcome, Rule};
@@ -76,10 +76,7 @@ impl<A: Allocator> Uses<A> {
         ensures run { HasCome self.old.task (progress_from self.old.task (progress_of self.old)) self.new }
         ensures goes_on { result ≡ goes_on (progress_of self.new) }
     {
-        early_ends_end();
-        others_are_ready();
-        never_stuck();
-        reached();
+        steps_move();
         let goes_on = self.run.step();
         self.cells = self.cells.max(self.run.depth());
         self.calls = self.calls.max(self.run.calls());
@@ -101,7 +98,6 @@ impl<A: Allocator> Uses<A> {
     pub fn run_to(&mut self, stop: &Stop<Elements<'_, u8>>, skip: u64) -> bool
         ensures { IsStopped result stop.now skip self.old self.new }
     {
-        never_stuck();
         reached();
         let _run = &self.run;
         let budget = self.run().job().limits().budget;

@@ -5,7 +5,7 @@ use job_history::Trail;
 use job_looks::{
     BeforeEnd, End, Ending, MOST_ENTRIES, Picture, Traced, before_of, end_of, ending_of,
 };
-use job_profile::{Columns, Profile, Run};
+use job_profile::{Profile, Run};
 use job_steps::Job;
 use job_tally::{Bands, Before, Chains, Stretch, Tally, changes_call};
 use std::alloc::{AllocError, Global};
@@ -38,8 +38,7 @@ pub struct Counts {
 /// the last state before its end, and that state if the end was foreseen there.
 #[derive(Drop)]
 pub struct Survey {
-    /// The run, and its words over time.
-    pub columns: Columns<Global>,
+    profile: Profile<Global>,
     /// What was counted.
     pub counts: Counts,
     trail: Trail<Global>,
@@ -121,11 +120,11 @@ impl Survey {
         job: Job<Global>,
         words: Words,
     ) -> Result<Survey, AllocError> {
-        let columns = Columns::new(alloc, rule, job)?;
+        let profile = Profile::new(alloc, rule, job)?;
         match Trail::new(alloc) {
-            Ok(trail) => Survey::begin(alloc, columns, trail, words),
+            Ok(trail) => Survey::begin(alloc, profile, trail, words),
             Err(error) => {
-                drop(columns);
+                drop(profile);
                 Err(error)
             }
         }
@@ -134,14 +133,14 @@ impl Survey {
     /// The survey of a run that has executed nothing.
     fn begin(
         alloc: Global,
-        columns: Columns<Global>,
+        profile: Profile<Global>,
         trail: Trail<Global>,
         words: Words,
     ) -> Result<Survey, AllocError> {
-        let holds = Holds::new(alloc, columns.profile().run());
-        match Counts::new(alloc, columns.profile().run(), words) {
+        let holds = Holds::new(alloc, profile.run());
+        match Counts::new(alloc, profile.run(), words) {
             Ok(counts) => Ok(Survey {
-                columns,
+                profile,
                 counts,
                 trail,
                 holds,
@@ -152,7 +151,7 @@ impl Survey {
             Err(error) => {
                 drop(holds);
                 drop(trail);
-                drop(columns);
+                drop(profile);
                 Err(error)
             }
         }
@@ -166,14 +165,14 @@ impl Survey {
         }
     }
 
-    /// The counts of lines.
+    /// The run, with the counts of lines and the words over time.
     pub fn profile(&self) -> &Profile<Global> {
-        self.columns.profile()
+        &self.profile
     }
 
     /// The run.
     fn run(&self) -> &Run<Global> {
-        self.columns.profile().run()
+        self.profile.run()
     }
 
     /// Counts an instruction that was executed, whose operands and results have this many elements, and at which these
@@ -191,8 +190,8 @@ impl Survey {
             self.counts.tally.count_words(before, words)?;
         }
         if changes_call(before.next.op) {
-            let (each, _) = self.columns.columns();
-            let run = self.columns.profile().run();
+            let (each, _) = self.profile.columns();
+            let run = self.profile.run();
             return self.counts.change(before, each, run);
         }
         Ok(())
@@ -201,7 +200,7 @@ impl Survey {
     /// Follows an instruction that was executed and counted.
     #[inline(always)]
     fn follow(&mut self, before: Before) -> Result<(), AllocError> {
-        let run = self.columns.profile().run();
+        let run = self.profile.run();
         self.holds.follow(&self.trail, run, before.next)?;
         self.trail.follow(before.next, run)
     }
@@ -209,10 +208,10 @@ impl Survey {
     /// Executes and follows the next instruction, which is this one; true if the job goes on.
     #[inline(always)]
     fn step(&mut self, before: Before) -> Result<bool, AllocError> {
-        let run = self.columns.profile().run();
+        let run = self.profile.run();
         self.holds.look(&self.trail, run, before.next.op)?;
         let words = self.counts.words_at(run);
-        let goes_on = self.columns.step()?;
+        let goes_on = self.profile.step()?;
         if let Some(elements) = before.elements(self.run()) {
             self.count(before, elements, words)?;
             self.follow(before)?;
@@ -225,7 +224,7 @@ impl Survey {
 
     /// Keeps the state of the run, which is the last before its end.
     fn keep_last(&mut self, alloc: Global) -> Result<(), AllocError> {
-        let run = self.columns.profile().run();
+        let run = self.profile.run();
         let state = Traced {
             run,
             trail: &self.trail,
@@ -264,9 +263,9 @@ impl Survey {
             Some(last) => last.function,
             None => 0,
         };
-        let (each, _) = self.columns.columns();
+        let (each, _) = self.profile.columns();
         self.counts.end_all(function, each)?;
-        self.columns.collect()
+        self.profile.collect()
     }
 
     /// What was held before the first instruction at the peak.
@@ -298,7 +297,7 @@ impl Survey {
     /// How the job ended, and of what more is shown.
     pub fn again(&self) -> Again {
         let end = self.end();
-        let (each, _) = self.columns.columns();
+        let (each, _) = self.profile.columns();
         let number = match end.ending {
             Ending::Memory(MemoryFault::Words, _) => end.steps.saturating_add(1),
             Ending::Returned | Ending::Fault(..) | Ending::Memory(..) | Ending::Budget => {
@@ -316,7 +315,7 @@ impl Survey {
     /// What is known of the last state, and the job.
     pub fn into_parts(self) -> (BeforeEnd, Job<Global>) {
         let Survey {
-            columns,
+            profile,
             counts,
             trail,
             holds,
@@ -326,7 +325,7 @@ impl Survey {
         } = self;
         drop(holds);
         drop(counts);
-        (before_of(picture, trail), columns.into_job())
+        (before_of(picture, trail), profile.into_job())
     }
 
     /// The survey of a job that has run to its end by a rule.

@@ -6,7 +6,7 @@ use crate::source_data::push_source;
 use batch_reader::{BatchFault, JobFault};
 use code_places::{Sources, Spans, last_line_of};
 use job_looks::{Ending, Last, Text, WideEnd, Work, push_number, push_size};
-use job_profile::{Column, Columns, Profile};
+use job_profile::{Column, Profile};
 use job_survey::{Counts, Survey};
 use job_tally::{
     Chain, Chains, FunctionHead, FunctionTally, LineCount, Tally, function_places, functions_of,
@@ -210,22 +210,22 @@ fn lines_at(alloc: Global, columns: &[Column]) -> Result<Vec<usize>, AllocError>
 }
 
 /// Adds the members for the line of the most words of each column and for its function.
-fn push_places(text: &mut Text, alloc: Global, columns: &Columns<Global>) {
-    let (_, list) = columns.columns();
+fn push_places(text: &mut Text, alloc: Global, profile: &Profile<Global>) {
+    let (_, list) = profile.columns();
     if let Some(lines) = text.get(lines_at(alloc, list)) {
         push_numbers(text, ",\"line\":[", lines.as_slice());
-        let functions = function_places(alloc, columns.profile(), lines.as_slice());
+        let functions = function_places(alloc, profile, lines.as_slice());
         push_numbers_of(text, ",\"function\":[", functions);
     }
 }
 
 /// Adds the member for the words over time.
-fn push_columns(text: &mut Text, alloc: Global, columns: &Columns<Global>, counts: &Counts) {
-    let (each, list) = columns.columns();
+fn push_columns(text: &mut Text, alloc: Global, profile: &Profile<Global>, counts: &Counts) {
+    let (each, list) = profile.columns();
     push_number(text, ",\"columns\":{\"each\":", each);
     push_most(text, list);
     push_least(text, list);
-    push_places(text, alloc, columns);
+    push_places(text, alloc, profile);
     push_numbers_of(text, ",\"ran\":[", counts.bands.places(alloc));
     text.push('}');
 }
@@ -443,7 +443,7 @@ fn push_counts(text: &mut Text, alloc: Global, survey: &Survey) {
     let (profile, counts) = (survey.profile(), &survey.counts);
     push_functions(text, alloc, profile, &counts.tally);
     push_lines(text, alloc, profile, &counts.tally);
-    push_columns(text, alloc, &survey.columns, counts);
+    push_columns(text, alloc, profile, counts);
     push_calls(text, &counts.chains);
 }
 

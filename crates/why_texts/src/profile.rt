@@ -6,7 +6,7 @@ use code_places::{Sources, push_place};
 use job_looks::{
     Text, push_answer, push_column, push_more, push_number, push_right, push_size, push_text_right,
 };
-use job_profile::{Columns, Profile, Run};
+use job_profile::{Profile, Run};
 use job_steps::Job;
 use job_survey::{Holder, Holdings, Survey, Words};
 use job_tally::{FunctionHead, FunctionTally, LineCount, LineTally, Tally, functions_of, lines_of};
@@ -221,16 +221,16 @@ impl Shown {
 }
 
 /// Adds the words that a job held over time.
-fn push_words(text: &mut Text, alloc: Global, columns: &Columns<Global>) {
-    let limit = columns.profile().run().job().limits().words;
-    let (each, list) = columns.columns();
+fn push_words(text: &mut Text, alloc: Global, profile: &Profile<Global>) {
+    let limit = profile.run().job().limits().words;
+    let (each, list) = profile.columns();
     push_drawing(text, alloc, list, each, limit);
 }
 
 /// The words that a job held over time, and what it held at the peak.
 pub fn words_text(alloc: Global, lines: &Lines, shown: &Shown) -> Text {
     let mut text = Text::new(alloc);
-    push_words(&mut text, alloc, &shown.survey.columns);
+    push_words(&mut text, alloc, shown.survey.profile());
     push_peak(
         &mut text,
         alloc,

@@ -4,14 +4,12 @@ use Rattle.job_profile.proofs.run.Run.step.Goals as goal
 
 pub step-stepped-requires-clause-numbers : goal.step-stepped-requires-clause-numbers
 step-stepped-requires-clause-numbers g c =
-    numbers_left c.shown_is_alone.ensures (ruled c.self.inside.rule c.self.inside.job) c.self.inside.blocks
-    c.self.inside.slot c.self.inside.desk c.self.invariant c.used-used.ensures.tidy
+    numbers_left c.shown_is_alone.ensures c.self.invariant c.used-used.ensures.tidy
 
 pub returns-clause-run : goal.returns-clause-run
 returns-clause-run g c =
-    let task = ruled c.self.inside.rule c.self.inside.job in
     let stepped =
-    stepped_by c.shown_is_alone.ensures c.ended_are_over.ensures task c.self.inside.blocks c.step-stepped.new.blocks
-    c.self.inside.slot c.step-stepped.new.self c.self.inside.desk c.self.invariant c.used-used.ensures.tidy
+    stepped_by c.shown_is_alone.ensures c.ended_are_over.ensures c.self.invariant c.used-used.ensures.tidy
     c.step-stepped.ensures.shows c.step-stepped.result c.step-stepped.ensures.answer c.step-stepped.ensures.standing in
-    come_by task c.self.inside.slot c.step-stepped.new.self c.args.self.now c.self.view_is stepped.progress
+    come_by (ruled c.self.inside.rule c.self.inside.job) c.self.inside.slot c.step-stepped.new.self c.args.self.now
+    c.self.view_is stepped.progress

@@ -1,8 +1,7 @@
-use Rattle.std.proofs.Common.{ℕ, ℤ, List, Some, sym, ◌∙◌, ap, slice_get}
+use Rattle.std.proofs.Common.{ℕ, ℤ, List, Some, sym, ◌∙◌, ap}
 use Rattle.refcounts.specs.SharedState.{IsLive}
 use Rattle.job_steps.specs.States.{ruled}
-use Rattle.job_profile.specs.Walks.{RunState, lists_in, progress_of}
-use Rattle.job_profile.proofs.Shown.{all_at, list_at, on_by}
+use Rattle.job_profile.proofs.Shown.{all_at, list_at}
 use Rattle.job_profile.proofs.run.Run.words.Goals as goal
 
 pub words-requires : goal.words-requires
@@ -14,11 +13,6 @@ words-requires g c =
 
 pub returns : goal.returns
 returns g c =
-    let task = ruled c.self.inside.rule c.self.inside.job in
-    let on =
-    on_by task c.self.inside.slot c.args.self.now c.goes_on.result c.self.view_is c.goes_on.ensures
-    c.if-not-goes_on.false in
     ap (λ (l : List ℤ). Some l) c.words.ensures
-    ∙ list_at c.shown_are_reached.ensures task c.self.inside.blocks c.self.inside.slot c.self.inside.desk
-    c.self.invariant on c.args.depth c.in_ok-id.id (sym c.cell.ensures ∙ c.in_ok-id.was)
-    ∙ ap (λ (r : RunState). slice_get (lists_in (progress_of r)) c.args.depth) c.self.view_is
+    ∙ list_at c.self.invariant c.self.view_is c.goes_on.ensures c.if-not-goes_on.false c.shown_are_reached.ensures
+    c.args.depth (sym c.cell.ensures ∙ c.in_ok-id.was)

@@ -1,16 +1,13 @@
-use Rattle.std.proofs.Common.{◌∙◌, ◌*◌, ◌/◌, ap, length, refl, arith}
+use Rattle.std.proofs.Common.{◌∙◌, ◌/◌, ap, length, refl, arith}
 use Rattle.job_profile.specs.declared.strip.TheConstants.{MOST_COLUMNS}
-use Rattle.job_profile.specs.Columns.{halved, highest}
-use Rattle.job_profile.proofs.Strips.{folded, highest_halved, length_halved, strip_as}
+use Rattle.job_profile.specs.Columns.{highest}
+use Rattle.job_profile.proofs.Strips.{folded, highest_halved, length_halved}
 use Rattle.job_profile.proofs.strip.Strip.make_room.Goals as goal
 
 pub returns-then-len-eq-MOST_COLUMNS-clause-strip : goal.returns-then-len-eq-MOST_COLUMNS-clause-strip
 returns-then-len-eq-MOST_COLUMNS-clause-strip g c = λ of n s.
-    let old = c.args.self.now in
-    strip_as of n (halved old.columns.items) _ (old.each * 2) _ 0 _ c.fold.ensures.columns c.fold.ensures.each
-    (c.fold.ensures.room ∙ c.requires.room)
-    (folded of n old.columns.items old.each old.room s (MOST_COLUMNS / 2) refl
-    (omega (arith, c.if-len-eq-MOST_COLUMNS.true, c.len.ensures)) c.requires.room)
+    rw (c.fold.ensures.columns, c.fold.ensures.each, c.fold.ensures.room, c.requires.room)
+    (folded s (MOST_COLUMNS / 2) refl (omega (arith, c.if-len-eq-MOST_COLUMNS.true, c.len.ensures)) c.requires.room)
 
 pub returns-then-len-eq-MOST_COLUMNS-clause-highest : goal.returns-then-len-eq-MOST_COLUMNS-clause-highest
 returns-then-len-eq-MOST_COLUMNS-clause-highest g c =

@@ -8,31 +8,27 @@ use Rattle.job_profile.proofs.Stops.{ends, far_is_over, first_seeking, seeking_b
 use Rattle.job_profile.proofs.uses.Uses.run_to.Goals as goal
 
 pub loop-init : goal.loop-init
-loop-init g c =
-    first_seeking c.args.stop.now c.args.skip c.self.inside.run c.args.self.now _ _ c.self.invariant c.self.view_is
+loop-init g c = first_seeking c.self.invariant.on_run c.self.view_is
 
 pub loop-preserved : goal.loop-preserved
 loop-preserved g c =
     let there =
     c.holds.ensures ∙ ap (λ (r : RunState). holds_in c.args.stop.now (progress_of r)) c.run-in-loop.ensures in
-    seeking_by c.args.stop.now c.args.skip c.args.self.now c.loop.counter c.loop.self c.step.new.self c.loop.left
-    c.in-Some.next c.loop.invariant c.step.ensures.run
+    seeking_by c.loop.invariant c.step.ensures.run
     (c.in-Some.ensures ∙ ap (λ (b : Bool). c.in-Some.next + cond b 1 0) there)
 
 pub returns-in-None : goal.returns-in-None
 returns-in-None g c =
     let there =
     c.holds.ensures ∙ ap (λ (r : RunState). holds_in c.args.stop.now (progress_of r)) c.run-in-loop.ensures in
-    stops c.args.stop.now c.args.skip c.args.self.now c.loop.counter c.loop.self c.loop.left c.loop.invariant
-    (sym there ∙ c.in-None.ensures.0) c.in-None.ensures.1
+    stops c.loop.invariant (sym there ∙ c.in-None.ensures.0) c.in-None.ensures.1
 
 pub returns-then-not-step : goal.returns-then-not-step
 returns-then-not-step g c =
     let there =
     c.holds.ensures ∙ ap (λ (r : RunState). holds_in c.args.stop.now (progress_of r)) c.run-in-loop.ensures in
-    ends c.args.stop.now c.args.skip c.args.self.now (c.loop.counter + 1) c.step.new.self c.in-Some.next
-    (seeking_by c.args.stop.now c.args.skip c.args.self.now c.loop.counter c.loop.self c.step.new.self c.loop.left
-    c.in-Some.next c.loop.invariant c.step.ensures.run
+    ends
+    (seeking_by c.loop.invariant c.step.ensures.run
     (c.in-Some.ensures ∙ ap (λ (b : Bool). c.in-Some.next + cond b 1 0) there))
     (sym c.step.ensures.goes_on ∙ c.if-not-step.true)
 
@@ -45,7 +41,5 @@ returns g c =
     ∙ ap (λ (r : RunState). r.task.limits.budget) c.run.ensures in
     let far : task.limits.budget < c.loop.counter = omega (arith, budget, c.loop-test.false) in
     let verified =
-    subst (λ (r : RunState). IsVerifiedBySome r.task.verified) c.self.view_is c.self.invariant.verified in
-    ends c.args.stop.now c.args.skip c.args.self.now c.loop.counter c.loop.self c.loop.left c.loop.invariant
-    (far_is_over c.never_stuck.ensures c.reached.ensures c.args.self.now verified c.loop.counter c.loop.self
-    c.loop.invariant.past far)
+    subst (λ (r : RunState). IsVerifiedBySome r.task.verified) c.self.view_is c.self.invariant.on_run.verified in
+    ends c.loop.invariant (far_is_over c.reached.ensures c.loop.invariant.past verified far)
