@@ -1,14 +1,11 @@
 -- What was read of a reader and fed.
-use Rattle.std.proofs.Common.{◌≡◌, ◌⊎◌, ℕ, ◌+◌, ◌-◌, ◌≤◌, Bool, true, false, List, ◌++◌, length, take, None, Some}
-use Rattle.std.proofs.Common.{subst, arith, ◌∙◌, sym, ap, refl, inl, inr}
-use Rattle.std.specs.Prelude.{Result, Ok, Err, IfOk, OnOk, OnErr, IsErrOf}
-use Rattle.std.proofs.lemmas.Bool.{false≢true}
+use Rattle.std.proofs.Common.{◌≡◌, ◌⊎◌, ℕ, ◌+◌, ◌-◌, ◌≤◌, Bool, true, false, List, ◌++◌, length, take}
+use Rattle.std.proofs.Common.{arith}
+use Rattle.std.specs.Prelude.{Result, Ok, Err, OnErr, IsErrOf}
 use Rattle.batch_front.specs.declared.fault.FrontFault.TheVariants.{Read, Write, Memory, Mixed}
-use Rattle.batch_front.specs.declared.device.Device.{Device}
-use Rattle.batch_front.specs.Devices.{IsAtFault}
 use Rattle.batch_front.specs.declared.fault.FrontFault.{FrontFault}
 use Rattle.std.specs.declared.option.Option.{Option}
-use Rattle.std.specs.Io.KnownBytes.{Appends, Consumes, Keeps, IsAtEnd}
+use Rattle.std.specs.Io.KnownBytes.{Consumes, Keeps, IsAtEnd}
 use Rattle.std.proofs.lemmas.Grind.{common_steps}
 use Rattle.std.proofs.lemmas.List.{length-append, length-take-le}
 use Rattle.vcode_base.specs.declared.limits.TheConstants.{MOST_BATCH_BYTES}
@@ -18,8 +15,7 @@ use Rattle.batch_reader.specs.Fates.{JobEntry, IsBatch}
 use Rattle.batch_front.specs.declared.status.Status.{Status}
 use Rattle.batch_front.specs.Inputs.{AreFirstBytes, IsBatchIn, ReadsFirstBytes, ReadsNoFurther}
 use Rattle.batch_front.specs.Reports.{report_of, status_of}
-use Rattle.batch_front.specs.Runs.{WritesReport, WritesFront, WritesWhole}
-use Rattle.batch_front.proofs.Bytes.{front_at_stop, front_when_full, reads_more, reads_none}
+use Rattle.batch_front.proofs.Bytes.{front_at_stop, front_when_full, reads_more}
 use Rattle.batch_front.proofs.Bytes.{rest_at_stop, rest_is_some, rest_when_full, some_rest}
 
 -- the fault of a result, and another one if it has none
@@ -45,14 +41,11 @@ pub fed_more : (a b c : Option (List ℕ)) (old new : FeedState) (left n : ℕ) 
     → HasFed a c new (left - n)
 fed_more a b c old new left n buffer behind h p within l f =
     let piece = take n buffer in
-    let count : length (h.bytes ++ piece) ≡ length h.bytes + length piece = length-append h.bytes piece in
-    let size : length piece ≡ n = length-take-le n buffer within in
-    let room = h.room in
     record {
       bytes = h.bytes ++ piece;
       consumed = reads_more a b c h.bytes piece h.consumed p;
-      come = subst (λ t. HasCome new (h.bytes ++ t)) (front_of n buffer behind within) (f h.bytes h.come);
-      room = omega (arith, count, room, size, l);
+      come = rw (front_of n buffer behind within) at (f h.bytes h.come);
+      room = omega (arith, h.room, length-append h.bytes piece, length-take-le n buffer within);
     }
 
 -- a piece that was read and not fed
@@ -60,17 +53,13 @@ pub read_no_further : (a b c : Option (List ℕ)) (old : FeedState) (left n : �
     → Consumes b c (take n buffer) → n ≤ length buffer → n ≤ left → ReadsNoFurther a c
 read_no_further a b c old left n buffer h p within l =
     let piece = take n buffer in
-    let count : length (h.bytes ++ piece) ≡ length h.bytes + length piece = length-append h.bytes piece in
-    let size : length piece ≡ n = length-take-le n buffer within in
-    let room = h.room in
     some_rest (MOST_BATCH_BYTES + 1) a c (h.bytes ++ piece) (reads_more a b c h.bytes piece h.consumed p)
-    (omega (arith, count, room, size, l))
+    (omega (arith, h.room, length-append h.bytes piece, length-take-le n buffer within))
 
 -- a read that gave nothing, and may be tried again
 pub fed_none : (a b c : Option (List ℕ)) (feed : FeedState) (left : ℕ) → HasFed a b feed left → Keeps b c
     → HasFed a c feed left
-fed_none a b c feed left h k =
-    record { bytes = h.bytes; consumed = reads_none a b c h.bytes h.consumed k; come = h.come; room = h.room }
+fed_none a b c feed left h k = grind arith
 
 -- ---- what is known of the input in the end
 
@@ -84,64 +73,31 @@ pub record IsFed (old new : Option (List ℕ)) (feed : FeedState) : Type 0 where
 pub fed_to_end : (a b c : Option (List ℕ)) (feed : FeedState) (left k : ℕ) (cs : List ℕ) → HasFed a b feed left
     → Consumes b c (take k cs) → k ≡ 0 → IsAtEnd c → IsFed a c feed
 fed_to_end a b c feed left k cs h p none end =
-    let room = h.room in
-    let short : length h.bytes ≤ MOST_BATCH_BYTES + 1 = omega (arith, room) in
-    let to_the_end = rest_at_stop (MOST_BATCH_BYTES + 1) k a b c h.bytes cs h.consumed p none end short in
+    let short : length h.bytes ≤ MOST_BATCH_BYTES + 1 = omega (arith, h.room) in
+    let to_the_end = rest_at_stop _ k a b c h.bytes cs h.consumed p none end short in
     record {
-      first = (
-        h.bytes,
-        h.come,
-        front_at_stop (MOST_BATCH_BYTES + 1) k a b c h.bytes cs h.consumed p none end short,
-      );
+      first = (h.bytes, h.come, front_at_stop _ k a b c h.bytes cs h.consumed p none end short);
       to_the_end = to_the_end;
-      no_further = rest_is_some (MOST_BATCH_BYTES + 1) a c to_the_end;
+      no_further = rest_is_some _ a c to_the_end;
     }
 
 -- a reader that gave as many bytes as may be read
 pub fed_to_limit : (a b : Option (List ℕ)) (feed : FeedState) (left : ℕ) → HasFed a b feed left → left ≡ 0
     → IsFed a b feed
 fed_to_limit a b feed left h none =
-    let room = h.room in
-    let full : length h.bytes ≡ MOST_BATCH_BYTES + 1 = omega (arith, room, none) in
-    let to_the_end = rest_when_full (MOST_BATCH_BYTES + 1) a b h.bytes h.consumed full in
+    let full : length h.bytes ≡ MOST_BATCH_BYTES + 1 = omega (arith, h.room) in
+    let to_the_end = rest_when_full _ a b h.bytes h.consumed full in
     record {
-      first = (h.bytes, h.come, front_when_full (MOST_BATCH_BYTES + 1) a b h.bytes h.consumed full);
+      first = (h.bytes, h.come, front_when_full _ a b h.bytes h.consumed full);
       to_the_end = to_the_end;
-      no_further = rest_is_some (MOST_BATCH_BYTES + 1) a b to_the_end;
+      no_further = rest_is_some _ a b to_the_end;
     }
 
 -- wherever the reading stopped
 pub fed_no_further : (a b : Option (List ℕ)) (feed : FeedState) (left : ℕ) → HasFed a b feed left → ReadsNoFurther a b
-fed_no_further a b feed left h =
-    let room = h.room in some_rest (MOST_BATCH_BYTES + 1) a b h.bytes h.consumed (omega (arith, room))
+fed_no_further a b feed left h = some_rest (MOST_BATCH_BYTES + 1) a b h.bytes h.consumed (omega (arith, h.room))
 
 -- ---- the batch that was read
-
--- its report was written, and its status is this
-pub report_of_input : (region : ℕ) (old : Option (List ℕ)) (batch : Batch (List JobEntry))
-    (before after : Option (List ℕ))
-    (status : Status) → IsBatchIn region old batch → Appends before after (report_of batch) → status ≡ status_of batch
-    → WritesReport region old before after status
-report_of_input region None batch before after status h w s = tt
-report_of_input region (Some input) batch before after status h w s =
-    (batch, subst (λ bytes. IsBatch region bytes batch) h.first h.comes, w, s)
-
--- a front of its report was written
-pub front_of_input : (region : ℕ) (old : Option (List ℕ)) (batch : Batch (List JobEntry))
-    (before after : Option (List ℕ))
-    (n : ℕ) → IsBatchIn region old batch → Appends before after (take n (report_of batch))
-    → WritesFront region old before after
-front_of_input region None batch before after n h w = tt
-front_of_input region (Some input) batch before after n h w =
-    (batch, subst (λ bytes. IsBatch region bytes batch) h.first h.comes, n, w)
-
--- all of its report was written
-pub whole_of_input : (region : ℕ) (old : Option (List ℕ)) (batch : Batch (List JobEntry))
-    (before after : Option (List ℕ))
-    → IsBatchIn region old batch → Appends before after (report_of batch) → WritesWhole region old before after
-whole_of_input region None batch before after h w = tt
-whole_of_input region (Some input) batch before after h w =
-    (batch, subst (λ bytes. IsBatch region bytes batch) h.first h.comes, w)
 
 -- what is known of a text and a status that are those of the batch
 pub record IsTold (region : ℕ) (old : Option (List ℕ)) (text : List ℕ) (is : Status) : Type 0 where
@@ -149,32 +105,6 @@ pub record IsTold (region : ℕ) (old : Option (List ℕ)) (text : List ℕ) (is
   pub comes : IsBatchIn region old batch
   pub report : text ≡ report_of batch
   pub status : is ≡ status_of batch
-
-pub report_told : (region : ℕ) (old : Option (List ℕ)) (text : List ℕ) (is : Status) (before after : Option (List ℕ))
-    (result : Result Status FrontFault) → IsTold region old text is → IfOk result (λ status. status ≡ is)
-    → OnOk result (Appends before after text) → IfOk result (WritesReport region old before after)
-report_told region old text is before after (Ok status) told same all =
-    report_of_input region old told.batch before after status told.comes
-    (subst (λ (l : List ℕ). Appends before after l) told.report all) (same ∙ told.status)
-report_told region old text is before after (Err fault) told same all = tt
-
-pub front_told : (region : ℕ) (old : Option (List ℕ)) (text : List ℕ) (is : Status) (before after : Option (List ℕ))
-    → IsTold region old text is → ((n : ℕ) × Appends before after (take n text)) → WritesFront region old before after
-front_told region old text is before after told front =
-    front_of_input region old told.batch before after front.0 told.comes
-    (subst (λ (l : List ℕ). Appends before after (take front.0 l)) told.report front.1)
-
-at_err : {P : Type 0} (result : Result Status FrontFault) (fault : FrontFault) → result ≡ Err fault → OnErr result P → P
-at_err (Ok status) fault e p = cc
-at_err (Err other) fault e p = p
-
-pub whole_told : {F : Type 0} (region : ℕ) (old : Option (List ℕ)) (text : List ℕ) (is : Status)
-    (before after : Option (List ℕ)) (result : Result Status FrontFault) (fault : FrontFault)
-    → IsTold region old text is
-    → OnErr result (F → Appends before after text) → result ≡ Err fault → F → WritesWhole region old before after
-whole_told region old text is before after result fault told all e flushing =
-    whole_of_input region old told.batch before after told.comes
-    (subst (λ (l : List ℕ). Appends before after l) told.report (at_err result fault e all flushing))
 
 pub batch_in : (region : ℕ) (old : Option (List ℕ)) (feed : FeedState) (batch : Batch (List JobEntry))
     → (bytes : List ℕ) × HasCome feed bytes × AreFirstBytes old bytes
@@ -191,21 +121,7 @@ abbrev is_no_other : {T : Type 0} → Result T FrontFault → Bool
 is_no_other (Ok v) = true
 is_no_other (Err fault) = is_write fault
 
-no_other : {T P : Type 0} (r : Result T FrontFault) (other : FrontFault) → is_write other ≡ false →
-    OnErr r (IsErrOf r Write) → IsErrOf r other → P
-no_other {T = T} r other isnt alone e =
-    let write : IsErrOf r Write = subst (λ (k : Result T FrontFault). OnErr k (IsErrOf r Write)) e alone in
-    absurd (false≢true (sym isnt ∙ ap (λ (k : Result T FrontFault). is_no_other k) (sym e ∙ write)))
-
 -- a fault that is none but of the writer is no other
 pub only_at_write : {T P : Type 0} (r : Result T FrontFault) → OnErr r (IsErrOf r Write) →
     IsErrOf r Read ⊎ IsErrOf r Memory ⊎ IsErrOf r Mixed → P
-only_at_write r alone (inl e) = no_other r Read refl alone e
-only_at_write r alone (inr (inl e)) = no_other r Memory refl alone e
-only_at_write r alone (inr (inr e)) = no_other r Mixed refl alone e
-
--- the fault of a writer, by the interruptions of the whole run
-pub fault_at_write : {T D : Type 0} (r : Result T FrontFault) (writer : Device D) (count all : ℕ) → count ≡ all →
-    OnErr r (IsAtFault writer count) → IsErrOf r Write → IsAtFault writer all
-fault_at_write {T = T} r writer count all same fault e =
-    subst (λ n. IsAtFault writer n) same (subst (λ (k : Result T FrontFault). OnErr k (IsAtFault writer count)) e fault)
+only_at_write r alone h = grind arith

@@ -1,25 +1,6 @@
 -- A job's own lines of a report.
-use Rattle.std.proofs.Common.{
-  ◌≡◌,
-  ℕ,
-  zero,
-  suc,
-  List,
-  [],
-  ◌∷◌,
-  slice_get,
-  Option,
-  Some,
-  Result,
-  Ok,
-  refl,
-  sym,
-  ap,
-  ◌∙◌,
-  subst,
-}
-use Rattle.std.specs.Prelude.{option_map}
-use Rattle.std.proofs.lemmas.Option.{none-some, same_Some}
+use Rattle.std.proofs.Common.{arith, ◌≡◌, ℕ, zero, suc, List, [], ◌∷◌, slice_get, Some, Result, Ok, ap}
+use Rattle.std.proofs.lemmas.Option.{none-some}
 use Rattle.vcode_base.specs.declared.rule.Rule.{Rule}
 use Rattle.job_steps.specs.Standings.{of_job}
 use Rattle.batch_reader.specs.declared.entry.Batch.TheVariants.{Jobs}
@@ -46,29 +27,17 @@ entry_in : (region : ℕ) (jobs : List JobText) (entries : List JobEntry) → Ar
     (i : ℕ) (job : JobText) → slice_get jobs i ≡ Some job → EntryAt region (suc i) job entries
 entry_in region [] entries are i job e = absurd (none-some job e)
 entry_in region (x ∷ jobs) [] are i job e = absurd are
-entry_in region (x ∷ jobs) (entry ∷ entries) are zero job e = record {
-  entry = entry;
-  is_at = refl;
-  is_entry = subst (λ k. IsEntry region k entry) (same_Some x job e) are.0;
-}
+entry_in region (x ∷ jobs) (entry ∷ entries) are zero job e = grind arith
 entry_in region (x ∷ jobs) (entry ∷ entries) are (suc i) job e =
     let rest = entry_in region jobs entries are.1 i job e in
     record { entry = rest.entry; is_at = rest.is_at; is_entry = rest.is_entry }
 
 entry_at : (region place : ℕ) (rule : Rule) (job : JobText) (input : List ℕ) (entries : List JobEntry) →
     IsBatch region input (Jobs rule entries) → HasJobAt place input job → EntryAt region place job entries
-entry_at region zero rule job input entries batch at = absurd (none-some job at.2)
-entry_at region (suc i) rule job input entries batch at =
-    let same = one_ok at.0 (rule, batch.0) (sym at.1 ∙ batch.1) in
-    entry_in region batch.0 entries batch.2 i job (sym (ap (λ (b : RuledJobs). slice_get b.1 i) same) ∙ at.2)
+entry_at region place rule job input entries batch at = grind (arith, none-some, one_ok, entry_in, slice_get)
 
 pub own_lines_in_batches : OneEntry → OwnLinesInBatches
 own_lines_in_batches one region place rule job input other entries others batch again at there =
     let x = entry_at region place rule job input entries batch at in
     let y = entry_at region place rule job other others again there in
-    let text = λ (o : Option JobEntry). option_map (λ (entry : JobEntry). entry_text place
-    (ruled_entry rule entry)) o in
-    ap text x.is_at
-    ∙ ap (λ (entry : JobEntry). Some (entry_text place (ruled_entry rule entry)))
-    (one region job x.entry y.entry x.is_entry y.is_entry)
-    ∙ sym (ap text y.is_at)
+    grind (arith, one region job x.entry y.entry x.is_entry y.is_entry)

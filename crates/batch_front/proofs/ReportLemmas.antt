@@ -1,5 +1,5 @@
 -- The words of a vector, one by one.
-use Rattle.std.proofs.Common.{◌≡◌, ℕ, ◌+◌, ◌≤◌, ℤ, List, [], ◌∷◌, ◌++◌, length, min, take, drop, map, ap, ◌∙◌, sym}
+use Rattle.std.proofs.Common.{◌≡◌, ℕ, ◌+◌, ◌≤◌, ℤ, List, [], ◌∷◌, ◌++◌, length, take, drop, map, ap, sym}
 use Rattle.std.proofs.Common.{arith}
 use Rattle.std.specs.List.{flat_map, join_with_byte}
 use Rattle.std.proofs.lemmas.Grind.{flat_map-append}
@@ -17,34 +17,18 @@ joined_by c f x (y ∷ ys) = ap (λ t. f x ++ (c ∷ t)) (joined_by c f y ys)
 -- the words of a vector
 pub words_joined : (kind : Kind) (words others : List ℤ) (first : ℤ) → words ≡ first ∷ others
     → word_text kind first ++ flat_map (next_word_text kind) others ≡ join_with_byte 32 (map (word_text kind) words)
-words_joined kind words others first whole =
-    sym (ap (λ (ws : List ℤ). join_with_byte 32 (map (word_text kind) ws)) whole
-    ∙ joined_by 32 (word_text kind) first others)
+words_joined kind words others first whole = grind (arith, joined_by 32 (word_text kind) first others)
 
 -- a front, and as many more
 take_two : (d n : ℕ) (ws : List ℤ) → take (d + n) ws ≡ take d ws ++ take n (drop d ws)
-take_two d n ws =
-    sym (take-append-drop d (take (d + n) ws))
-    ∙ ap (λ front. front ++ drop d (take (d + n) ws)) (take-take d (d + n) ws (omega arith))
-    ∙ ap (λ rest. take d ws ++ rest) (drop-take d n ws)
+take_two d n ws = grind (arith, take-append-drop d (take (d + n) ws), take-take d (d + n) ws, drop-take d n ws)
 
 pub more_within : (ws more : List ℤ) (d m : ℕ) → d ≤ length ws → more ≡ take m (drop d ws)
     → d + length more ≤ length ws
-more_within ws more d m within is =
-    let long = ap length is in
-    let most = length-take m (drop d ws) in
-    let rest = length-drop d ws in
-    omega arith
+more_within ws more d m within is = grind (arith, length-take, length-drop)
 
 -- some more words, after others than the first
 pub more_words : (f : ℤ → List ℕ) (ws more : List ℤ) (d m : ℕ) → 1 ≤ d → d ≤ length ws → more ≡ take m (drop d ws)
     → flat_map f (drop 1 (take d ws)) ++ flat_map f more ≡ flat_map f (drop 1 (take (d + length more) ws))
 more_words f ws more d m first within is =
-    let front = length-take d ws in
-    let same : more ≡ take (length more) (drop d ws) =
-    is ∙ sym (take_min m (drop d ws))
-    ∙ ap (λ n. take n (drop d ws)) (sym (ap length is ∙ length-take m (drop d ws))) in
-    ap (λ rest. flat_map f (drop 1 (take d ws)) ++ flat_map f rest) same
-    ∙ sym (flat_map-append f (drop 1 (take d ws)) (take (length more) (drop d ws)))
-    ∙ ap (flat_map f) (sym (drop-append-le 1 (take d ws) (take (length more) (drop d ws)) (omega arith))
-    ∙ ap (drop 1) (sym (take_two d (length more) ws)))
+    grind (arith, length-take, take_min, flat_map, flat_map-append, drop-append-le, take_two)

@@ -1,9 +1,8 @@
 -- A machine that has run out.
 use Rattle.std.proofs.Common.{◌≡◌, ℕ, zero, suc, ◌+◌, ◌<◌, ◌≤◌, take, get_or, List, [], ◌∷◌, length, Some}
-use Rattle.std.proofs.Common.{◌++◌, ◌∙◌, Option, None, refl, ap, arith}
+use Rattle.std.proofs.Common.{◌++◌, Option, refl, ap, arith}
 use Rattle.std.specs.Prelude.{All, slice_get, option_map}
 use Rattle.std.proofs.lemmas.List.Elements.{All-head, All-more, All-tail, All-weaker}
-use Rattle.std.proofs.lemmas.Option.{same_Some}
 use Rattle.vcode_base.specs.declared.outcome.Outcome.{Outcome}
 use Rattle.job_steps.specs.Runs.{outcome, executed_count, peak}
 use Rattle.job_steps.specs.Standings.{Standing, Collected, of_job, executed_at, peak_at, outcome_at}
@@ -18,7 +17,7 @@ told_out : {T : Type 0} (of : Task → Standing → T) (tasks : List Task) (stan
     → told_by of (slice_get tasks place) (slice_get standings place)
     ≡ option_map (λ task. of task Collected) (slice_get tasks place)
 told_out of [] standings place e all = refl
-told_out of (t ∷ ts) [] place e all = absurd (omega (arith, e))
+told_out of (t ∷ ts) [] place e all = grind arith
 told_out of (t ∷ ts) (s ∷ ss) zero e all = ap (λ k. Some (of t k)) (All-head (λ s. s ≡ Collected) s ss all)
 told_out of (t ∷ ts) (s ∷ ss) (suc place) e all =
     told_out of ts ss place (omega (arith, e)) (All-tail (λ s. s ≡ Collected) s ss all)
@@ -27,7 +26,7 @@ outcome_out : (tasks : List Task) (standings : List Standing) (place : ℕ)
     → length standings ≡ length tasks → All (λ s. s ≡ Collected) standings
     → outcome_by (slice_get tasks place) (slice_get standings place) ≡ option_map outcome (slice_get tasks place)
 outcome_out [] standings place e all = refl
-outcome_out (t ∷ ts) [] place e all = absurd (omega (arith, e))
+outcome_out (t ∷ ts) [] place e all = grind arith
 outcome_out (t ∷ ts) (s ∷ ss) zero e all = ap (λ k. outcome_at t k) (All-head (λ s. s ≡ Collected) s ss all)
 outcome_out (t ∷ ts) (s ∷ ss) (suc place) e all =
     outcome_out ts ss place (omega (arith, e)) (All-tail (λ s. s ≡ Collected) s ss all)
@@ -35,29 +34,20 @@ outcome_out (t ∷ ts) (s ∷ ss) (suc place) e all =
 -- what is reported of a job is the result of its run alone
 pub outcome_told : (m : MachineState) (job : ℕ) → HasRunOut m
     → outcome_in job m ≡ option_map outcome (of_job job m.tasks)
-outcome_told m zero h = refl
-outcome_told m (suc place) h = outcome_out m.tasks m.standings place h.same_length h.collected
+outcome_told m job h = grind (arith, outcome_out)
 
 pub executed_told : (m : MachineState) (job : ℕ) → HasRunOut m
     → told executed_at job m ≡ option_map executed_count (of_job job m.tasks)
-executed_told m zero h = refl
-executed_told m (suc place) h = told_out executed_at m.tasks m.standings place h.same_length h.collected
+executed_told m job h = grind (arith, told_out, executed_at)
 
 pub peak_told : (m : MachineState) (job : ℕ) → HasRunOut m → told peak_at job m ≡ option_map peak (of_job job m.tasks)
-peak_told m zero h = refl
-peak_told m (suc place) h = told_out peak_at m.tasks m.standings place h.same_length h.collected
+peak_told m job h = grind (arith, told_out, peak_at)
 
 -- the lines on a job that there is
 pub told_as : (task : Option Task) (ending : Outcome (List Vector)) (instructions words : ℕ) → IsTask task
     → Some ending ≡ option_map outcome task → Some instructions ≡ option_map executed_count task
     → Some words ≡ option_map peak task → outcome_text ending ++ used_text instructions words ≡ told_text task
-told_as None ending instructions words there e f g = absurd there
-told_as (Some task) ending instructions words there e f g =
-    ap (λ (o : Outcome (List Vector)). outcome_text o ++ used_text instructions words)
-    (same_Some ending (outcome task) e)
-    ∙ (ap (λ (n : ℕ). outcome_text (outcome task) ++ used_text n words)
-    (same_Some instructions (executed_count task) f)
-    ∙ ap (λ (n : ℕ). outcome_text (outcome task) ++ used_text (executed_count task) n) (same_Some words (peak task) g))
+told_as task ending instructions words there e f g = grind arith
 
 -- ---- words
 

@@ -1,5 +1,5 @@
 -- The turns of jobs, one after another.
-use Rattle.std.proofs.Common.{◌≡◌, ℕ, suc, ◌+◌, ◌<◌, List, [], ◌∷◌, ◌++◌, length, take, get_or, Option, Some, None}
+use Rattle.std.proofs.Common.{◌≡◌, ℕ, ◌+◌, ◌<◌, List, [], ◌∷◌, ◌++◌, length, take, get_or, Option}
 use Rattle.std.proofs.Common.{refl, sym, ap, subst, ◌∙◌, arith}
 use Rattle.std.specs.Prelude.{IfSome}
 use Rattle.std.proofs.lemmas.List.{take_more}
@@ -30,7 +30,7 @@ pub all_wait : (m : MachineState) (rule : Rule) (region : ℕ) (tasks : List Tas
       passes = (first_queue tasks).passes;
     }
     → m.standings ≡ first_standings m.tasks
-all_wait m rule region tasks e = ap (λ k. k.standings) e ∙ ap (λ k. first_standings k.tasks) (sym e)
+all_wait m rule region tasks e = grind arith
 
 no_step_first : (m : MachineState) → m.standings ≡ first_standings m.tasks → HasNoStep m
 no_step_first m e = ap recalled_standings e ∙ waiting m.tasks ∙ sym e
@@ -46,15 +46,13 @@ workbench_fits m workbench wait h =
 -- what leads from a machine leads from the same one, if it is known
 pub led_from : {V : Type 0} (o : Option V) (from_v : V → MachineState) (mid new : MachineState)
     → IfSome o (λ v. mid ≡ from_v v) → Leads mid new → IfSome o (λ v. Leads (from_v v) new)
-led_from None from_v mid new is leads = tt
-led_from (Some v) from_v mid new is leads = subst (λ (m : MachineState). Leads m new) is leads
+led_from o from_v mid new is leads = grind arith
 
 -- ---- one more
 
 pub admissions_with : (n next : ℕ) (m now new : MachineState) → next ≡ n + 1 → now ≡ after_admissions n m
     → new ≡ machine_after event.Admit now → new ≡ after_admissions next m
-admissions_with n next m now new one e f =
-    let same : next ≡ suc n = omega (arith, one) in rw same (f ∙ ap (machine_after event.Admit) e)
+admissions_with n next m now new one e f = grind arith
 
 after_more : (reported : List ReportedJob) (items : List Item) (last : Item) (m : MachineState)
     → after_items reported (items ++ last ∷ []) m ≡ after_item reported last (after_items reported items m)
@@ -65,7 +63,4 @@ pub items_with : (reported : List ReportedJob) (items : List Item) (n next : ℕ
     → next ≡ n + 1 → n < length items → now ≡ after_items reported (take n items) m
     → new ≡ after_item reported (get_or items n any) now → new ≡ after_items reported (take next items) m
 items_with reported items n next any m now new one l e f =
-    let item = get_or items n any in
-    let front : take next items ≡ take n items ++ item ∷ [] = ap (λ k. take k items) one ∙ take_more items n any l in
-    f ∙ ap (after_item reported item) e ∙ sym (after_more reported (take n items) item m)
-    ∙ ap (λ is. after_items reported is m) (sym front)
+    grind (arith, take_more items n any, after_more reported (take n items) (get_or items n any) m)
