@@ -90,59 +90,8 @@ pub(crate) fn run_on_caller<A: Allocator + Copy>(
     }
 }
 
-/// Runs the jobs of a batch, which all wait, to their ends on worker threads, which pass the gate in the middle of each
-/// step.
-fn run_on_workers<A, H, G>(
-    rt: &H,
-    alloc: A,
-    batch: LoadedBatch<A>,
-    options: &Options,
-    gate: &G,
-) -> Result<LoadedBatch<A>, RunFault>
-where
-    A: Allocator + Copy + Send + Sync,
-    H: Threads + Wait + Sync,
-    G: Gate + Sync,
-    requires { IsWaiting batch }
-    ensures out { IfOk result (RanOut batch) }
-    ensures never_mixed { IsErrOf result RunFault.Mixed → ⊥ }
-{
-    match batch {
-        Loaded::Refused(line, fault) => Ok(Loaded::Refused(line, fault)),
-        Loaded::Jobs(machine, reported) => {
-            let workers = options.workers as usize;
-            let (machine, _) = run_workers(rt, alloc, machine, workers, gate)?;
-            let _jobs = machine.jobs();
-            Ok(Loaded::Jobs(machine, reported))
-        }
-    }
-}
-
-/// Runs the jobs of a batch, which all wait, to their ends on lanes.
-fn run_on_lanes<A, H>(
-    rt: &H,
-    alloc: A,
-    batch: LoadedBatch<A>,
-    options: &Options,
-) -> Result<LoadedBatch<A>, AllocError>
-where
-    A: Allocator + Copy + Send + Sync,
-    H: Threads + Wait + Sync,
-    requires { IsWaiting batch }
-    ensures { IfOk result (RanOut batch) }
-{
-    match batch {
-        Loaded::Refused(line, fault) => Ok(Loaded::Refused(line, fault)),
-        Loaded::Jobs(machine, reported) => {
-            let region = options.region as usize;
-            let machine = run_lanes(rt, alloc, machine, region, options.lanes as usize)?;
-            let _jobs = machine.jobs();
-            Ok(Loaded::Jobs(machine, reported))
-        }
-    }
-}
-
-/// Runs the jobs of a batch, which all wait, to their ends: on lanes if more than one is asked for, else on workers.
+/// Runs the jobs of a batch, which all wait, to their ends: on lanes if more than one is asked for, else on worker
+/// threads, which pass the gate in the middle of each step.
 pub(crate) fn run_on_threads<A, H, G>(
     rt: &H,
     alloc: A,
@@ -158,9 +107,17 @@ where
     ensures out { IfOk result (RanOut batch) }
     ensures never_mixed { IsErrOf result RunFault.Mixed → ⊥ }
 {
-    if options.lanes > 1 {
-        Ok(run_on_lanes(rt, alloc, batch, options)?)
-    } else {
-        run_on_workers(rt, alloc, batch, options, gate)
+    match batch {
+        Loaded::Refused(line, fault) => Ok(Loaded::Refused(line, fault)),
+        Loaded::Jobs(machine, reported) => {
+            let machine = if options.lanes > 1 {
+                let region = options.region as usize;
+                run_lanes(rt, alloc, machine, region, options.lanes as usize)?
+            } else {
+                run_workers(rt, alloc, machine, options.workers as usize, gate)?.0
+            };
+            let _jobs = machine.jobs();
+            Ok(Loaded::Jobs(machine, reported))
+        }
     }
 }
