@@ -9,8 +9,8 @@ use vcode_base::{Instr, Instruction, Kind};
 use vcode_reader::CodeItem;
 use verifier::KindFault;
 
-/// A walk by kinds through bodies, one after the other. An entry of a stack is the number of its kind. What a CALL and a
-/// RET do is up to who walks. Nothing changes after the end of a path.
+/// A walk by kinds through bodies, one after the other. An entry of a stack is the number of its kind. What a CALL and
+/// a RET do is up to who walks. Nothing changes after the end of a path.
 #[derive(Drop)]
 pub struct KindWalk<A: Allocator> {
     pub(crate) classes: Classes<A>,
@@ -21,7 +21,7 @@ pub struct KindWalk<A: Allocator> {
 }
 
 impl<A: Allocator + Copy> KindWalk<A> {
-    /// A walk in no body, with so many numbers of kinds. A stack may have at most `most_entries` entries.
+    /// A walk in no body, with `count` numbers of kinds. A stack may have at most `most_entries` entries.
     pub fn new(alloc: A, count: u32, most_entries: usize) -> Result<KindWalk<A>, AllocError> {
         Ok(KindWalk {
             classes: Classes::new(alloc, count)?,

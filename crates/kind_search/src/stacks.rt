@@ -403,7 +403,7 @@ impl<A: Allocator> Stacks<A> {
     }
 
     /// The stack after an IF whose parts end with these two, which are of equal kinds: if the lines that put kinds are
-    /// told apart, entries that differ become those that are put now.
+    /// told apart, an entry that differs becomes the number that an entry of its kind has from now on.
     pub(crate) fn merge(
         &mut self,
         classes: &mut Classes<A>,
@@ -479,7 +479,7 @@ impl<A: Allocator> Stacks<A> {
 }
 
 impl Stack {
-    /// So many entries were taken off, down to this level.
+    /// `count` entries were taken off, down to this level.
     fn lower(&mut self, top: Level, count: u32) {
         self.top = top;
         self.height = self.height.saturating_sub(count as usize);

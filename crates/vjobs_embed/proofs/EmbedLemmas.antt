@@ -52,3 +52,6 @@ delivered_as report items of status is out new result needed d e f g h =
     let second : first ≡ record { status = result; needed = length report; out = new } =
     ap (λ (n : ℕ). record { status = result; needed = n; out = new }) long in
     second ∙ d ∙ ap (λ (x : List ℕ). delivered x status out) (e ∙ f) ∙ ap (λ (s : Status). delivered of s out) g
+
+-- what `deliver` needs
+pub ruleset of_delivered = (delivered_long, delivered_short, exit_apart)

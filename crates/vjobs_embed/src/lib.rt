@@ -91,7 +91,7 @@ fn report_and_status(
 }
 
 /// Writes a report to the front of a buffer, if it has room. Answers what the call answers.
-#[tactic(auto, using(crate::proofs::EmbedLemmas::delivered_long, crate::proofs::EmbedLemmas::delivered_short, crate::proofs::EmbedLemmas::exit_apart))]
+#[tactic(auto, using(crate::proofs::EmbedLemmas::of_delivered))]
 fn deliver(report: &[u8], status: Status, out: &mut [u8]) -> u32
     ensures left { record { status = result; needed = length report.now; out = out.new }
         ≡ delivered report.now status out.old }

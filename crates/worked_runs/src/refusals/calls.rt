@@ -81,9 +81,9 @@ fn runs_out<'h>(heap: &'h Heap, machine: &mut HeapMachine<'h>, growth: u64) -> R
     Ok(ran.is_ok())
 }
 
-/// Whether a job of a machine that was refused memory has ended, no step is in flight, and what was done before is kept:
-/// either the first job has ended and the second is as before its step, or the first is collected and the second has
-/// ended.
+/// Whether a job of a machine that was refused memory has ended, no step is in flight, and what was done before is
+/// kept: either the first job has ended and the second is as before its step, or the first is collected and the second
+/// has ended.
 fn has_stopped(machine: &HeapMachine<'_>) -> bool {
     let Snapshot { first, second, .. } = snapshot_of(machine);
     if first.is(Status::Ended, 2) {
