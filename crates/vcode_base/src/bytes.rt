@@ -34,6 +34,7 @@ fn with_digit(value: u64, digit: u8) -> Option<u64>
 
 /// The value of the decimal digits at the front of a text, and how many they are; `None` if there is no digit or the
 /// value doesn't fit.
+#[tactic(auto, using(crate::proofs::Digits::digit_steps))]
 #[inline(always)]
 pub fn number_at_front(text: &[u8]) -> Option<(u64, usize)>
     ensures { MatchOption result (HasNoNumberAtFront (2 ^ 64) text.now) (λ found. IsNumberAtFront
@@ -59,6 +60,7 @@ pub fn number_at_front(text: &[u8]) -> Option<(u64, usize)>
 }
 
 /// The value of a text of one decimal digit or more and nothing else, if it fits.
+#[tactic(auto, using(crate::proofs::Digits::decimal_steps))]
 pub fn decimal(text: &[u8]) -> Option<u64>
     ensures { result ≡ below (2 ^ 64) (decimal text.now) }
 {

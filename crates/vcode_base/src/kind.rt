@@ -22,6 +22,7 @@ impl Kind {
     /// Whether these are the words of a vector of this kind: for `Int` any words, for `Bool` each 0
     /// or 1, for `Segdes` none negative and a total, found without wrapping, of at most
     /// 4,294,967,295.
+    #[tactic(auto, using(crate::proofs::KindTests::kind_steps))]
     pub fn holds(self, words: &[i64]) -> bool
         ensures { IsTrue result ↔ HasKind self words.now }
     {
@@ -69,6 +70,7 @@ impl Scalar {
 ///
 /// At the kinds that [`Op::source_kinds`](crate::Op::source_kinds) answers, this is whether an
 /// instruction takes these operands, or `CONST` this list.
+#[tactic(auto, using(crate::proofs::KindTests::as_many))]
 pub fn have_kinds(kinds: &[Kind], vectors: &[&[i64]]) -> bool
     ensures { IsTrue result ↔ HaveKinds kinds.now (contents vectors.now) }
 {
@@ -84,6 +86,7 @@ pub fn have_kinds(kinds: &[Kind], vectors: &[&[i64]]) -> bool
 }
 
 /// Whether each word is 0 or 1.
+#[tactic(auto, using(crate::proofs::KindTests::kind_steps))]
 fn are_flags(words: &[i64]) -> bool
     ensures { IsTrue result ↔ All IsFlag words.now }
 {

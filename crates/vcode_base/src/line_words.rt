@@ -73,6 +73,7 @@ fn stands_alone(byte: u8, parentheses: Parentheses) -> bool
 }
 
 /// The first word of a line and the rest after it; `None` if there is no word.
+#[tactic(auto, unfolding(crate::specs::LineWords::words_of_line))]
 fn first_word(line: &[u8], parentheses: Parentheses) -> Option<(&[u8], &[u8])>
     ensures { MatchOption result (words_of_line parentheses line.now ≡ [])
         (λ parts. words_of_line parentheses line.now
@@ -87,6 +88,7 @@ fn first_word(line: &[u8], parentheses: Parentheses) -> Option<(&[u8], &[u8])>
 }
 
 /// The word at the front and the rest after it.
+#[tactic(auto, using(crate::proofs::LineWordLemmas::word_steps), unfolding(crate::specs::LineWords::words_of_line))]
 fn split_word(text: &[u8], parentheses: Parentheses) -> (&[u8], &[u8])
     requires { begins_with_word text.now ≡ true }
     ensures { words_of_line parentheses text.now

@@ -39,6 +39,7 @@ impl<A: Allocator> PackedWords<A> {
     /// # Errors
     ///
     /// [`AllocError`] if memory for them was refused.
+    #[tactic(auto, using(crate::proofs::PackedLemmas::words_are))]
     pub(crate) fn copy_of(alloc: A, words: &[i64]) -> Result<PackedWords<A>, AllocError>
     where
         A: Clone,
@@ -60,6 +61,7 @@ impl<A: Allocator> PackedWords<A> {
     }
 
     /// How many words there are.
+    #[tactic(auto, using(crate::proofs::PackedLemmas::words_long))]
     pub(crate) fn len(&self) -> usize
         ensures { result ≡ length (words_of self.now) }
     {
@@ -71,6 +73,7 @@ impl<A: Allocator> PackedWords<A> {
     }
 
     /// Fills a list with the words from this place on.
+    #[tactic(auto, using(crate::proofs::PackedLemmas::packed_steps))]
     pub(crate) fn copy_from(&self, from: usize, into: &mut [i64])
         requires { from + length into.old ≤ length (words_of self.now) }
         ensures { into.new ≡ take (length into.old) (drop from (words_of self.now)) }
@@ -96,6 +99,7 @@ fn magnitude_of(word: i64) -> u64
 }
 
 /// A number that no word's magnitude passes. It has no more bits than the greatest of them.
+#[tactic(auto, using(crate::proofs::PackedLemmas::bound_steps))]
 fn bound_of(words: &[i64]) -> u64
     ensures { All (λ w. magnitude w ≤ result) words.now }
 {
@@ -188,6 +192,7 @@ fn widen(bytes: &[i8], out: &mut [i64])
 }
 
 /// Writes the words from this place on, of which these are the high and the low parts.
+#[tactic(auto, using(crate::proofs::PackedLemmas::packed_steps))]
 fn join_from(highs: &[u8], lows: &[u16], from: usize, out: &mut [i64])
     requires high_parts { from + length out.old ≤ length highs.now }
     requires low_parts { from + length out.old ≤ length lows.now }
@@ -198,6 +203,7 @@ fn join_from(highs: &[u8], lows: &[u16], from: usize, out: &mut [i64])
 }
 
 /// Writes the words of these high and low parts.
+#[tactic(auto, using(crate::proofs::PackedLemmas::words_made))]
 fn join(highs: &[u8], lows: &[u16], out: &mut [i64])
     requires high_parts { length out.old ≡ length highs.now }
     requires low_parts { length out.old ≡ length lows.now }

@@ -1,11 +1,11 @@
-use Rattle.std.proofs.Common.{◌≡◌, ◌+◌, ◌<◌, ◌^◌, drop}
-use Rattle.vcode_base.specs.Bytes.{digit_count}
-use Rattle.vcode_base.proofs.Digits.{value_at_front}
+use Rattle.std.proofs.Common.{◌≡◌, ◌+◌, ◌<◌, ◌^◌, drop, take}
+use Rattle.vcode_base.specs.Bytes.{digit_count, digits_from}
 use Rattle.vcode_base.proofs.bytes.number_at_front.Given as goal
 
 abbrev pub invariant-loop-place : goal.invariant-loop-place
 invariant-loop-place l = record {
-  value : value_at_front 0 l.text ≡ value_at_front l.value (drop l.place l.text);
+  value : digits_from 0 (take (digit_count l.text) l.text)
+      ≡ digits_from l.value (take (digit_count (drop l.place l.text)) (drop l.place l.text));
   small : l.value < 2 ^ 64;
   count : digit_count l.text ≡ l.place + digit_count (drop l.place l.text);
 }

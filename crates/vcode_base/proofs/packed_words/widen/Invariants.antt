@@ -1,5 +1,5 @@
-use Rattle.std.proofs.Common.{◌≡◌, ◌<◌, ℕ, pos, get_or}
+use Rattle.std.proofs.Common.{◌≡◌, take}
 use Rattle.vcode_base.proofs.packed_words.widen.Given as goal
 
 abbrev pub invariant-loop-i : goal.invariant-loop-i
-invariant-loop-i l = (k : ℕ) → k < l.i → get_or l.out k (pos 0) ≡ get_or l.bytes k (pos 0)
+invariant-loop-i l = take l.i l.out ≡ take l.i l.bytes
