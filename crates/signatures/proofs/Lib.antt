@@ -1,6 +1,5 @@
 pub mod Bytes
 pub mod Lines
-pub mod Parts
 pub mod Readings
 pub mod Said
 pub mod Spelled

@@ -62,6 +62,7 @@ fn list<A: Allocator>(alloc: A, words: &mut LineWords<'_>) -> Result<Vec<Kind, A
 }
 
 /// Takes kinds up to a closing parenthesis.
+#[tactic(auto, unfolding(crate::specs::Reading::kinds_from))]
 fn kinds<A: Allocator>(alloc: A, words: &mut LineWords<'_>) -> Result<Vec<Kind, A>, EntryFault>
     ensures { MatchResult result
         (λ kinds. kinds_from [] words.old ≡ Some (kinds.items, words.new))
@@ -81,6 +82,7 @@ fn kinds<A: Allocator>(alloc: A, words: &mut LineWords<'_>) -> Result<Vec<Kind, 
 }
 
 /// The kinds that the words after a name say.
+#[tactic(auto, unfolding(crate::specs::Reading::arrow_in))]
 pub(crate) fn arrow<A: Allocator + Clone>(
     alloc: A,
     mut words: LineWords<'_>,

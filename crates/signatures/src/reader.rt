@@ -19,6 +19,7 @@ use std::marker::Model;
 use vcode_base::{LineWords, Parentheses};
 
 /// Adds what a line says to the signatures of the lines before it. At an `Err` they are as before.
+#[tactic(auto, unfolding(crate::specs::Reading::after_line))]
 fn add_line<A: Allocator + Copy>(
     signatures: &mut Signatures<A>,
     line: &[u8],
@@ -102,7 +103,7 @@ impl<A: Allocator + Copy> Scanner<A> {
         Ok(())
     }
 
-    #[tactic(auto, unfolding(crate::specs::Scan::scan_after_bytes))]
+    #[tactic(auto, using(crate::proofs::Lines::scan_steps), unfolding(crate::specs::Scan::scan_after_bytes))]
     fn take_bytes(&mut self, piece: &[u8]) -> Result<(), AllocError>
         requires { self.old.number + line_feeds piece.now < 2 ^ 64 }
         ensures { OnOk result (self.new ≡ scan_after_bytes self.old piece.now) }
@@ -163,6 +164,7 @@ impl<A: Allocator + Copy> SigReader<A> {
     /// # Errors
     ///
     /// [`AllocError`] if memory is refused, and from then on at each piece.
+    #[tactic(auto, using(crate::proofs::Lines::scan_steps))]
     pub fn feed(&mut self, piece: &[u8]) -> Result<(), AllocError>
         requires { self.old.failed ≡ false → self.old.scan.number + line_feeds piece.now < 2 ^ 64 }
         // What has come is what had come before and then the piece.
@@ -187,6 +189,7 @@ impl<A: Allocator + Copy> SigReader<A> {
     /// # Errors
     ///
     /// The first fault of the text with its line; `Memory` if memory is refused, or was in a piece.
+    #[tactic(auto, using(crate::proofs::Lines::comes_to_reading))]
     pub fn finish(self) -> Result<Signatures<A>, SigFault>
         ensures answer { (first : ℕ) (bytes : List ℕ) → HasCome self first bytes
             → Answers result (reading first bytes) }
@@ -204,6 +207,7 @@ impl<A: Allocator + Copy> SigReader<A> {
 /// It answers what the lines say, or what is wrong with the first wrong line and that line's number, or
 /// `Memory` if memory is refused. The lines are numbered upwards from `first_line`, and the last
 /// number must fit.
+#[tactic(auto, using(crate::proofs::Readings::is_answer))]
 pub fn read<A: Allocator + Copy>(
     alloc: A,
     text: &[u8],

@@ -44,6 +44,7 @@ impl<A: Allocator + Copy> Signatures<A> {
 
     /// Adds a signature after the others, if it fits the limits and its name is new. At an `Err`
     /// they are as before.
+    #[tactic(auto, using(crate::proofs::TableLemmas::kinds_in), unfolding(crate::specs::Reading::add))]
     pub(crate) fn add(&mut self, name: &[u8], kinds: FunctionType<A>) -> Result<(), EntryFault>
         ensures added { MatchResult result
             (λ _. add self.old (signature name.now kinds) ≡ Ok self.new)
@@ -73,6 +74,7 @@ impl<A: Allocator> Signatures<A> {
 
     /// The kinds that the function of this name takes and those that it gives, from bottom to top;
     /// `None` if it has no signature.
+    #[tactic(auto, using(crate::proofs::TableLemmas::kinds_in))]
     pub fn get(&self, name: &[u8]) -> Option<(&[Kind], &[Kind])>
         ensures { MatchOption result (kinds_of self.now name.now ≡ None)
             (λ kinds. kinds_of self.now name.now ≡ Some (kinds.0.now, kinds.1.now)) }
@@ -93,6 +95,7 @@ impl<A: Allocator> Signatures<A> {
 
     /// The signature at a place, counted from 0: its name, the kinds that it takes and those that it
     /// gives; `None` past the last.
+    #[tactic(auto, using(crate::proofs::TableLemmas::signature_at))]
     pub fn at(&self, place: usize) -> Option<(&[u8], &[Kind], &[Kind])>
         ensures { MatchOption result (slice_get self.now place ≡ None)
             (λ parts. slice_get self.now place
@@ -103,6 +106,7 @@ impl<A: Allocator> Signatures<A> {
     }
 
     /// How many there are.
+    #[tactic(auto, using(crate::proofs::TableLemmas::names_differ))]
     pub fn len(&self) -> usize
         ensures len { result ≡ length self.now }
         ensures distinct { NamesDiffer self.now }
