@@ -106,6 +106,7 @@ impl PairStep for Quotient {
 
     ghost refuses = { is_zero };
 
+    #[tactic(auto, using(crate::proofs::Wrapping::quotients))]
     fn apply(left: i64, right: i64) -> i64 {
         left.wrapping_div(right)
     }
@@ -132,6 +133,7 @@ impl PairStep for LeftShift {
 
     ghost refuses = { is_outside 64 };
 
+    #[tactic(auto, using(crate::proofs::Wrapping::shifts))]
     fn apply(left: i64, right: i64) -> i64 {
         left.wrapping_shl(right as u32)
     }

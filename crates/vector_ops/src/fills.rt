@@ -43,6 +43,7 @@ pub fn fill(op: Elementwise, ops: &[&[i64]], out: &mut [i64]) -> Result<(), Data
 
 /// Copies the words, as `CONST` does those of its list. One word alone costs no call.
 #[inline(always)]
+#[tactic(auto, using(crate::proofs::Lists::one_place))]
 pub fn copy(words: &[i64], out: &mut [i64])
     requires { length out.old ≡ length words.now }
     ensures { out.new ≡ words.now }

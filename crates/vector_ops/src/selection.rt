@@ -9,6 +9,7 @@ use crate::steps::ElementStep;
 /// Writes the element of `chosen` where the flag is T, and that of `other` where it is F. One element alone takes no
 /// loop.
 #[inline(always)]
+#[tactic(auto, using(crate::proofs::Lists::one_place))]
 pub(crate) fn select(flags: &[i64], chosen: &[i64], other: &[i64], out: &mut [i64])
     requires kind { All IsFlag flags.now }
     requires chosen_same { length chosen.now ≡ length flags.now }
@@ -26,6 +27,7 @@ pub(crate) fn select(flags: &[i64], chosen: &[i64], other: &[i64], out: &mut [i6
 /// The same for any number of elements. It is a call of its own, so that one element alone is tested for at once: a
 /// loop in its place would first test for none.
 #[inline(never)]
+#[tactic(auto, using(crate::proofs::Lists::places))]
 fn select_many(flags: &[i64], chosen: &[i64], other: &[i64], out: &mut [i64])
     requires kind { All IsFlag flags.now }
     requires chosen_same { length chosen.now ≡ length flags.now }

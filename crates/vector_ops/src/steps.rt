@@ -45,6 +45,7 @@ pub trait ElementTest {
 
 /// Writes the step's element of each two elements at one place. One element alone takes no loop.
 #[inline(always)]
+#[tactic(auto, using(crate::proofs::Lists::one_place))]
 pub(crate) fn fill_pairs<S: PairStep>(left: &[i64], right: &[i64], out: &mut [i64])
     requires same { length right.now ≡ length left.now }
     requires room { length out.old ≡ length left.now }
@@ -61,6 +62,7 @@ pub(crate) fn fill_pairs<S: PairStep>(left: &[i64], right: &[i64], out: &mut [i6
 /// The same for any number of elements. It is a call of its own, as the other loops over many elements are, so that one
 /// element alone is tested for at once.
 #[inline(never)]
+#[tactic(auto, using(crate::proofs::Lists::places))]
 fn fill_many_pairs<S: PairStep>(left: &[i64], right: &[i64], out: &mut [i64])
     requires same { length right.now ≡ length left.now }
     requires room { length out.old ≡ length left.now }
@@ -96,6 +98,7 @@ pub(crate) fn fill_pairs_unless<T: ElementTest, S: PairStep>(
 }
 
 /// Writes the step's element of each left element and one right element.
+#[tactic(auto, using(crate::proofs::Lists::places))]
 pub(crate) fn fill_by<S: PairStep>(left: &[i64], right: i64, out: &mut [i64])
     requires room { length out.old ≡ length left.now }
     requires allowed { S.refuses right ≡ false }
@@ -119,6 +122,7 @@ pub(crate) fn are_all(elements: &[i64], number: i64) -> bool
 
 /// Writes the step's element of each element. One element alone takes no loop.
 #[inline(always)]
+#[tactic(auto, using(crate::proofs::Lists::one_place))]
 pub(crate) fn fill_each<S: ElementStep>(elements: &[i64], out: &mut [i64])
     requires room { length out.old ≡ length elements.now }
     ensures { out.new ≡ map S.gives elements.now }
@@ -132,6 +136,7 @@ pub(crate) fn fill_each<S: ElementStep>(elements: &[i64], out: &mut [i64])
 
 /// The same for any number of elements.
 #[inline(never)]
+#[tactic(auto, using(crate::proofs::Lists::places))]
 fn fill_many<S: ElementStep>(elements: &[i64], out: &mut [i64])
     requires room { length out.old ≡ length elements.now }
     ensures { out.new ≡ map S.gives elements.now }

@@ -1,7 +1,13 @@
-use Rattle.std.proofs.Common.{arith}
-use Rattle.vector_ops.proofs.Lists.{selected_made}
+use Rattle.std.proofs.Common.{arith, ℤ, pos, if◌then◌else◌}
+use Rattle.std.specs.List.{zip}
+use Rattle.std.proofs.lemmas.Slice.Zip.{get_or-zip}
+use Rattle.vcode_base.specs.Elements.{is_set}
+use Rattle.vector_ops.proofs.Lists.{pairs_more, places}
 use Rattle.vector_ops.proofs.selection.select_many.Goals as goal
 
-pub returns : goal.returns
-returns c = selected_made _ _ _ _ (omega arith) c.requires.chosen_same c.requires.other_same
-    (λ k h. c.loop-i.invariant k (omega arith))
+pub loop-i-preserved : goal.loop-i-preserved
+loop-i-preserved c =
+    let others = zip c.args.chosen.now c.args.other.now in
+    let there = get_or-zip c.args.chosen.now c.args.other.now c.loop-i.i (pos 0, pos 0) in
+    let choice = λ (p : ℤ × (ℤ × ℤ)). if is_set p.0 then p.1.0 else p.1.1 in
+    grind (arith, places, there, pairs_more c.args.flags.now others choice c.loop-i.i (pos 0, (pos 0, pos 0)))

@@ -1,7 +1,8 @@
-use Rattle.std.proofs.Common.{◌≡◌, ◌<◌, ℕ, pos, get_or, if◌then◌else◌}
+use Rattle.std.proofs.Common.{◌≡◌, map, take, if◌then◌else◌}
+use Rattle.std.specs.List.{zip}
 use Rattle.vcode_base.specs.Elements.{is_set}
 use Rattle.vector_ops.proofs.selection.select_many.Given as goal
 
 abbrev pub invariant-loop-i : goal.invariant-loop-i
-invariant-loop-i l = (k : ℕ) → k < l.i → get_or l.out k (pos 0)
-    ≡ (if is_set (get_or l.flags k (pos 0)) then get_or l.chosen k (pos 0) else get_or l.other k (pos 0))
+invariant-loop-i l =
+    take l.i l.out ≡ map (λ (b, p). if is_set b then p.0 else p.1) (take l.i (zip l.flags (zip l.chosen l.other)))

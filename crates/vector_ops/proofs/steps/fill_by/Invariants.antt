@@ -1,6 +1,5 @@
-use Rattle.std.proofs.Common.{◌≡◌, ◌<◌, ℕ, pos, get_or}
+use Rattle.std.proofs.Common.{◌≡◌, map, take}
 use Rattle.vector_ops.proofs.steps.fill_by.Given as goal
 
 abbrev pub invariant-loop-i : goal.invariant-loop-i
-invariant-loop-i g l = (k : ℕ) → k < l.i
-    → get_or l.out k (pos 0) ≡ g.S.PairStep.gives (get_or l.left k (pos 0)) l.fn.right
+invariant-loop-i g l = take l.i l.out ≡ map (λ x. g.S.PairStep.gives x l.fn.right) (take l.i l.left)
