@@ -9,41 +9,33 @@ use prog.Memory.{Memory}
 use prog.Routine.{Routine}
 use types.Logic.{Logic, sem}
 use contract.Monad.{Fun}
-use types.Kit.{
-  ‵,
-  ◌⊛◌,
-  some,
-  later,
-  ◌$◌,
-  ◌∵◌,
-  !,
-  qed,
-  move,
-  keep,
-  use1,
-  split,
-  join,
-  pick,
-  fjoin,
-  feq_i,
-  feq_l,
-  flt_i,
-  check,
-  show,
-  await,
-  updating,
-  now as at_once,
-  done,
-}
+use types.Kit.{‵, ◌⊛◌, some, later, ◌$◌, ◌∵◌, !, qed, move, keep, use1, split, join, pick, fjoin, feq_i, feq_l, flt_i}
+use types.Kit.{check, show, await, updating, now as at_once, done}
 use denote.Memory.{hidden_shr}
 use denote.Builtin.{bool, unit}
+use denote.Exit.{yes}
+use denote.RattleType.{RattleType}
+use denote.Ref.{Bor, shr_vals}
+use denote.Signature.{plain}
 use denote.Steps.{nothing, only}
 use denote.Triple.Statement.{Contract}
 use denote.Triple.Spec.{triple_of}
+use denote.Triple.Walked.{Stay, stay_dropped}
 use Rattle.test_support.specs.contracts.counts.Counts as CO
 use Rattle.test_support.specs.contracts.counts.Counts.admits as AD
 use Rattle.test_support.specs.contracts.counts.Counts.frees as FR
 use Rattle.test_support.specs.contracts.counts.Counts.shrinks as SH
+
+-- the values of a word that is passed
+abbrev pub word : ℕ → List Val
+word n = vint w64 n ∷ []
+
+-- nothing is left of a parameter of this type
+abbrev pub dropped : {n : ℕ} (V : RattleType) → Stay (plain {n = n} (λ _. V)) yes
+dropped V = stay_dropped (plain (λ _. V)) yes
+
+abbrev lent : (CO.the_row).Denot → ℕ × ℕ → Bor (CO.the_row).Denot
+lent a c = record { ref_ptr = c; now = a }
 
 module _ {M : Type 1} {𝓤 : Ura M} (𝓛 : Logic 𝓤) (at_mem : Memory → SProp 𝓤) (run : Routine → Fun 𝓤) where
   abbrev pub Admits : Contract 𝓤
@@ -57,67 +49,15 @@ module _ {M : Type 1} {𝓤 : Ura M} (𝓛 : Logic 𝓤) (at_mem : Memory → SP
 
   module _ (κ : Lft) (q : Share) (a : (CO.the_row).Denot) (c : ℕ × ℕ) where
     abbrev pub at_admits : ℕ → Admits.Ghost
-    at_admits n = (
-      (
-        (κ, tt),
-        (q, tt),
-        tt,
-        (
-          record {
-            ref_ptr = c;
-            now = a;
-          },
-          (n, tt),
-        ),
-        (vptr c.0 c.1 ∷ [], (vint w64 n ∷ [], tt)),
-      ),
-      tt,
-    )
+    at_admits n = (((κ, tt), (q, tt), tt, (lent a c, (n, tt)), (shr_vals (lent a c), (word n, tt))), tt)
 
     abbrev pub at_frees : ℕ → Frees.Ghost
-    at_frees n = (
-      (
-        (κ, tt),
-        (q, tt),
-        tt,
-        (
-          record {
-            ref_ptr = c;
-            now = a;
-          },
-          (n, tt),
-        ),
-        (vptr c.0 c.1 ∷ [], (vint w64 n ∷ [], tt)),
-      ),
-      tt,
-    )
+    at_frees = at_admits
 
     abbrev pub at_shrinks : ℕ → ℕ → ℕ → Shrinks.Ghost
-    at_shrinks n old new = (
-      (
-        (κ, tt),
-        (q, tt),
-        tt,
-        (
-          record {
-            ref_ptr = c;
-            now = a;
-          },
-          (n, (old, (new, tt))),
-        ),
-        (
-          vptr c.0 c.1 ∷ [],
-          (
-            vint w64 n ∷ [],
-            (
-              vint w64 old ∷ [],
-              (vint w64 new ∷ [], tt),
-            ),
-          ),
-        ),
-      ),
-      tt,
-    )
+    at_shrinks n old new =
+        let words : List Val × (List Val × (List Val × Unit {0})) = (word n, (word old, (word new, tt))) in
+        (((κ, tt), (q, tt), tt, (lent a c, (n, (old, (new, tt)))), (shr_vals (lent a c), words)), tt)
 
 module _ {M : Type 1} {𝓤 : Ura M} (𝓛 : Logic 𝓤) (at_mem : Memory → SProp 𝓤) (run : Routine
     → Fun 𝓤) (κ : Lft) (q : Share) (a : (CO.the_row).Denot) (c : ℕ × ℕ) where
@@ -130,28 +70,21 @@ module _ {M : Type 1} {𝓤 : Ura M} (𝓛 : Logic 𝓤) (at_mem : Memory → SP
       ((Admits 𝓛 at_mem run).pre (at_admits 𝓛 at_mem run κ q a c n))
   Admits-goes n fn =
       qed 𝓛 (‵ (hidden_shr CO.the_row κ a c.0 c.1) ∷ ‵ (flft κ q) ∷ []) ∵
-      nothing ! $ flt_i ! n (2 ^ 64) fn $ feq_i ! (List Val) (vint w64 n ∷ [])
-      (vint w64 n ∷ []) refl $ fjoin ! $ fjoin ! $
+      nothing ! $ flt_i ! n (2 ^ 64) fn $ feq_i ! (List Val) (word n) (word n) refl $ fjoin ! $ fjoin ! $
       move ! (1 ∷ []) $ feq_i ! (List Val) (vptr c.0 c.1 ∷ []) (vptr c.0 c.1 ∷ []) refl $ fjoin ! $ fjoin ! $
       nothing ! $ move ! (2 ∷ []) $ join ! $ join ! $ nothing ! $ move ! (1 ∷ []) $ done !
 
   pub Frees-goes : (n : ℕ) → n < 2 ^ 64 → ent 𝓤 (sep 𝓤 seen (A.lft κ q))
       ((Frees 𝓛 at_mem run).pre (at_frees 𝓛 at_mem run κ q a c n))
-  Frees-goes n fn =
-      qed 𝓛 (‵ (hidden_shr CO.the_row κ a c.0 c.1) ∷ ‵ (flft κ q) ∷ []) ∵
-      nothing ! $ flt_i ! n (2 ^ 64) fn $ feq_i ! (List Val) (vint w64 n ∷ [])
-      (vint w64 n ∷ []) refl $ fjoin ! $ fjoin ! $
-      move ! (1 ∷ []) $ feq_i ! (List Val) (vptr c.0 c.1 ∷ []) (vptr c.0 c.1 ∷ []) refl $ fjoin ! $ fjoin ! $
-      nothing ! $ move ! (2 ∷ []) $ join ! $ join ! $ nothing ! $ move ! (1 ∷ []) $ done !
+  Frees-goes = Admits-goes
 
   pub Shrinks-goes : (n old new : ℕ) → n < 2 ^ 64 → old < 2 ^ 64 → new < 2 ^ 64
       → ent 𝓤 (sep 𝓤 seen (A.lft κ q)) ((Shrinks 𝓛 at_mem run).pre (at_shrinks 𝓛 at_mem run κ q a c n old new))
   Shrinks-goes n old new fn fo fw =
       qed 𝓛 (‵ (hidden_shr CO.the_row κ a c.0 c.1) ∷ ‵ (flft κ q) ∷ []) ∵
-      nothing ! $ flt_i ! new (2 ^ 64) fw $ feq_i ! (List Val) (vint w64 new ∷ [])
-      (vint w64 new ∷ []) refl $ fjoin ! $ fjoin ! $
-      flt_i ! old (2 ^ 64) fo $ feq_i ! (List Val) (vint w64 old ∷ []) (vint w64 old ∷ []) refl $ fjoin ! $ fjoin ! $
-      flt_i ! n (2 ^ 64) fn $ feq_i ! (List Val) (vint w64 n ∷ []) (vint w64 n ∷ []) refl $ fjoin ! $ fjoin ! $
+      nothing ! $ flt_i ! new (2 ^ 64) fw $ feq_i ! (List Val) (word new) (word new) refl $ fjoin ! $ fjoin ! $
+      flt_i ! old (2 ^ 64) fo $ feq_i ! (List Val) (word old) (word old) refl $ fjoin ! $ fjoin ! $
+      flt_i ! n (2 ^ 64) fn $ feq_i ! (List Val) (word n) (word n) refl $ fjoin ! $ fjoin ! $
       move ! (1 ∷ []) $ feq_i ! (List Val) (vptr c.0 c.1 ∷ []) (vptr c.0 c.1 ∷ []) refl $ fjoin ! $ fjoin ! $
       nothing ! $ move ! (2 ∷ []) $ join ! $ join ! $ nothing ! $ move ! (1 ∷ []) $ done !
 

@@ -2,24 +2,24 @@
 use Rattle.std.proofs.Common.{◌≡◌, ℕ, ◌+◌, ◌^◌, ◌<◌, true, false, List, [], ◌∷◌, Ok, Err, refl, w64, Bor}
 use seplogic.Ra.Ura.{Ura}
 use mir.Syntax.{Ty, Args, Fn, a_type, dnil, dcons}
-use mir.Val.{Val, vint, vptr}
+use mir.Val.{Val, vint, vptr, vbool, has_ty, WT}
 use mir.MapTy.{inst_fn}
 use base.Logic.{SProp, ent, id⊢}
 use base.Fml.{Lft, Share, ftrue, flft}
 use prog.Memory.{Memory, size, align, capped, up}
 use prog.Routine.{Routine}
-use prog.Wp.{WpFn, Tables}
+use prog.Wp.{WpFn, Tables, Env}
 use types.Logic.{Logic}
 use contract.BorrowLft.{◌⊑◌, ⊑_trans}
 use contract.Monad.{Fun, fact}
 use contract.Running.{tables, tables_of}
 use sound.WpLaws.{fm_of, WpFn-mono}
-use types.Run.{stop, fld, addr, no_more, and_then, of_opd, returns, enter}
+use types.Run.{stop, fld, addr, no_more, and_then, of_opd, returns, enter, lit, first, branches, exec}
 use denote.Exit.{yes}
 use denote.RattleType.{owns}
 use denote.Ref.{shr_vals}
 use denote.Opens.{unhide}
-use denote.Param.{bounded, param}
+use denote.Param.{bounded, param, layout}
 use denote.Plain.{uint_vals, uint_Tells}
 use denote.Signature.{Slot, plain, types_at}
 use denote.Steps.{heard, nothing}
@@ -28,68 +28,20 @@ use denote.Triple.Spec.{triple_of}
 use denote.Triple.Statement.{Triple}
 use denote.Triple.Table.{entered, cited}
 use denote.Triple.Walked.{Stays, stay_dropped, walk_of, ends_at, walked, Goes-dropped, walk_Meets}
-use types.Kit.{
-  ‵,
-  raw,
-  ◌⊛◌,
-  ⋆,
-  some,
-  later,
-  given,
-  at_ret,
-  learn,
-  pick,
-  ◌$◌,
-  ◌∵◌,
-  !,
-  qed,
-  by,
-  move,
-  keep,
-  use0,
-  use1,
-  use2,
-  split,
-  join,
-  fsplit,
-  fjoin,
-  suffices,
-  await,
-  done,
-}
+use types.Kit.{‵, raw, ◌⊛◌, ⋆, some, later, given, at_ret, learn, pick, ◌$◌, ◌∵◌, !, qed, by, move, keep, use0, use1}
+use types.Kit.{use2, split, join, fsplit, fjoin, suffices, await, done}
 use types.ByLocal.{alloc_all, pass_all, free_all, look_at, get, through, sets, sets_last, lands_as, lands_last, is, env}
 use types.Part.{agg}
-use types.Run.{lit, first, branches, exec}
 use denote.RawPtr.{block_ptr}
 use denote.Builtin.{usize, RefOf}
 use denote.Triple.Call.{calls_at, calls_at_last}
-use denote.Param.{layout}
 use Rattle.std.proofs.alloc.Shapes.{after}
 use mathlib.Core.Bool.{Bool}
 use mathlib.Core.Path.{sym, subst}
 use lib.Dec.{T}
-use mir.Val.{vbool, has_ty, WT}
-use prog.Wp.{Env}
-use Rattle.std.proofs.alloc.Calls.{
-  Al,
-  α,
-  seen,
-  token,
-  got,
-  Answer,
-  answer_val,
-  Answer-typed,
-  Answer-Ok,
-  Answer-err,
-  takes_key,
-  Takes,
-  at_takes,
-  Answered,
-  Takes-goes,
-  Takes-gives,
-  answers,
-}
-use Rattle.test_support.proofs.Counting.{Admits, at_admits, Admits-goes, Admits-gives}
+use Rattle.std.proofs.alloc.Calls.{Al, α, seen, token, got, Answer, answer_val, Answer-typed, Answer-Ok, Answer-err}
+use Rattle.std.proofs.alloc.Calls.{takes_key, Takes, at_takes, Answered, Takes-goes, Takes-gives, answers}
+use Rattle.test_support.proofs.Counting.{word, dropped, Admits, at_admits, Admits-goes, Admits-gives}
 use Rattle.test_support.proofs.counts.Counts.admits.Symbol as c_sym
 use Rattle.test_support.proofs.counts.Counts.admits.Met as c_met
 use Rattle.test_support.specs.contracts.RefusingHeap as wrapper
@@ -112,7 +64,7 @@ module _ (Z : Al) where
   ended = F.ended Z.row Z.g Z.d Z.drops
 
   abbrev stayed : Stays ended.signature.params ended.kept
-  stayed = (stay_dropped self yes, (stay_dropped (plain (λ _. usize)) yes, (stay_dropped (plain (λ _. usize)) yes, tt)))
+  stayed = (stay_dropped self yes, (dropped usize, (dropped usize, tt)))
 
 module _ (Z : Al) {M : Type 1} {𝓤 : Ura M} (𝓛 : Logic 𝓤) (at_mem : Memory → SProp 𝓤) (run : Routine
     → Fun 𝓤) (𝓣 : Tables 𝓤 𝓛.H) (tk : Triple 𝓤 (𝓣.C (takes_key Z)) (Takes Z 𝓛 at_mem run))
@@ -125,22 +77,7 @@ module _ (Z : Al) {M : Type 1} {𝓤 : Ura M} (𝓛 : Logic 𝓤) (at_mem : Memo
   module _ (κ₁ κ₂ : Lft) (q₁ q₂ : Share) (inn : κ₁ ⊑ κ₂) (r : Bor (wrapper.the_row Z.row).Denot) (n a : ℕ)
       (τ : Ty) where
     abbrev bound : (walk_of 𝓛 (ended Z) (stayed Z) held).Ghost
-    bound = (
-      (
-        (κ₁, (κ₂, tt)),
-        (q₁, (q₂, tt)),
-        (inn, tt),
-        (r, (n, (a, tt))),
-        (
-          shr_vals r,
-          (
-            vint w64 n ∷ [],
-            (vint w64 a ∷ [], tt),
-          ),
-        ),
-      ),
-      τ,
-    )
+    bound = (((κ₁, (κ₂, tt)), (q₁, (q₂, tt)), (inn, tt), (r, (n, (a, tt))), (shr_vals r, (word n, (word a, tt)))), τ)
 
     abbrev vs : List Val
     vs = vptr r.ref_ptr.0 r.ref_ptr.1 ∷ vint w64 n ∷ vint w64 a ∷ []
@@ -185,13 +122,8 @@ module _ (Z : Al) {M : Type 1} {𝓤 : Ura M} (𝓛 : Logic 𝓤) (at_mem : Memo
         split ! $ split ! $ move ! (2 ∷ []) $ fsplit ! $ fsplit ! $ move !
         (1 ∷ []) $ unhide ! $ fsplit ! $ fsplit ! $ use1 𝓛 (‵ (seen Z κ₁ p h))
         (id⊢ 𝓤 _) $ move ! (1 ∷ []) $ fsplit ! $ keep ! (0 ∷ 6 ∷ 2 ∷ 7 ∷ []) $
-        enter ! 𝓣.C 𝓣.Λ (here Z) vs _ $ alloc_all ! (λ l. pass_all ! refl (
-          (tt, tt),
-          (
-            (tt, record { fits = fn }),
-            ((tt, record { fits = fa }), tt),
-          ),
-        ) $
+        enter ! 𝓣.C 𝓣.Λ (here Z) vs _ $ alloc_all ! (λ l.
+        pass_all ! refl ((tt, tt), ((tt, record { fits = fn }), ((tt, record { fits = fa }), tt))) $
         let En : Env 𝓤 H = env (here Z).locals l in
         sets ! (addr ! (through ! refl (fld ! refl (stop !)))) refl (tt, tt) $
         use2 𝓛 (raw ((Admits 𝓛 at_mem run).pre (at_admits 𝓛 at_mem run κ₁ q₁ r.now.counts c n)))
@@ -233,16 +165,10 @@ allocate_spec 𝓤 𝓛 𝓜 𝓡 wired Y L g d d' met _ =
     let A = 𝓛.A in
     let 𝓣 : Tables 𝓤 𝓛.H = tables_of 𝓤 𝓛.H 𝓜 (tables 𝓤 𝓛.H 𝓜 𝓡 𝓡.env) in
     let c = F.clauses Y g d d' 𝓛 𝓜.mem 𝓡.returns in
+    let gone = Goes-dropped 𝓛 2 (plain (λ _. usize)) yes (λ κs x f. refl) in
     entered 𝓤 𝓛.H (triple_of 𝓛 (F.signature Y) (F.spec Y g d d' 𝓛 𝓜.mem 𝓡.returns)) 𝓣.C 𝓣.Λ (key.name (args Z))
     (here Z) (code.unfolded 𝓤 𝓛.H 𝓜 𝓡 wired (Y, tt) d d')
-    (walk_Meets 𝓛 (ended Z) (stayed Z) (
-      Goes-dropped 𝓛 2 (self Z) yes (λ κs x f. refl),
-      (
-        Goes-dropped 𝓛 2 (plain
-            (λ _. usize)) yes (λ κs x f. refl),
-        (Goes-dropped 𝓛 2 (plain (λ _. usize)) yes (λ κs x f. refl), tt),
-      ),
-    ) c
+    (walk_Meets 𝓛 (ended Z) (stayed Z) (Goes-dropped 𝓛 2 (self Z) yes (λ κs x f. refl), (gone, (gone, tt))) c
     (WpFn 𝓤 𝓛.H 𝓣.C 𝓣.Λ (here Z)) (WpFn-mono 𝓤 𝓛.H 𝓛.laws 𝓣 (here Z))
     (walked 𝓛 (ended Z) (stayed Z) c (WpFn 𝓤 𝓛.H 𝓣.C 𝓣.Λ (here Z))
     (λ κs. (shr_vals, (uint_vals w64, (uint_vals w64, tt))))

@@ -2,10 +2,10 @@
 use Rattle.std.proofs.Common.{◌≡◌, ℕ, ◌+◌, ◌^◌, ◌<◌, List, [], ◌∷◌, refl, w64, Bor}
 use seplogic.Ra.Ura.{Ura}
 use mir.Syntax.{Ty, Args, Fn, a_type, dnil, dcons}
-use mir.Val.{Val, vint, vptr}
+use mir.Val.{Val, vint, vptr, vunit}
 use mir.MapTy.{inst_fn}
-use base.Logic.{SProp, ent, id⊢}
-use base.Fml.{Lft, Share, ftrue, flft}
+use base.Logic.{SProp, ent, id⊢, never_e}
+use base.Fml.{Lft, Share, ftrue, flft, ffalse, fsep, froom}
 use prog.Memory.{Memory, size, align, capped, up}
 use prog.Routine.{Routine}
 use prog.Wp.{WpFn, Tables}
@@ -14,7 +14,7 @@ use contract.BorrowLft.{◌⊑◌, ⊑_trans}
 use contract.Monad.{Fun, fact}
 use contract.Running.{tables, tables_of}
 use sound.WpLaws.{fm_of, WpFn-mono}
-use types.Run.{stop, fld, addr, no_more, and_then, of_opd, returns, enter}
+use types.Run.{stop, fld, addr, no_more, and_then, of_opd, returns, enter, unit_lit}
 use denote.Exit.{yes}
 use denote.RattleType.{owns}
 use denote.Ref.{shr_vals}
@@ -28,43 +28,14 @@ use denote.Triple.Spec.{triple_of}
 use denote.Triple.Statement.{Triple}
 use denote.Triple.Table.{entered, cited}
 use denote.Triple.Walked.{Stays, stay_dropped, walk_of, ends_at, walked, Goes-dropped, walk_Meets}
-use mir.Val.{vunit}
-use base.Logic.{never_e}
-use base.Fml.{ffalse, fsep, froom}
-use types.Kit.{
-  Item,
-  ‵,
-  raw,
-  ◌⊛◌,
-  later,
-  given,
-  ◌$◌,
-  ◌∵◌,
-  !,
-  qed,
-  by,
-  move,
-  keep,
-  use1,
-  use2,
-  split,
-  split3,
-  join,
-  learn,
-  fsplit,
-  fjoin,
-  feq_i,
-  suffices,
-  await,
-  done,
-}
-use types.Run.{unit_lit}
+use types.Kit.{Item, ‵, raw, ◌⊛◌, later, given, ◌$◌, ◌∵◌, !, qed, by, move, keep, use1, use2, split, split3, join}
+use types.Kit.{learn, fsplit, fjoin, feq_i, suffices, await, done}
 use types.ByLocal.{alloc_all, pass_all, free_all, look_at, get, through, sets, lands_as}
 use denote.RawPtr.{Ptr, block_ptr, null_ptr, ptr_val, rawptr_vals, rawptr_Tells}
 use denote.Builtin.{usize, RawPtr, RefOf}
 use denote.Triple.Call.{calls_at}
 use Rattle.std.proofs.alloc.Calls.{Al, α, seen, token, gives_key, Gives, at_gives, Gives-goes, Gives-Gives}
-use Rattle.test_support.proofs.Counting.{Frees, at_frees, Frees-goes, Frees-gives}
+use Rattle.test_support.proofs.Counting.{word, dropped, Frees, at_frees, Frees-goes, Frees-gives}
 use Rattle.test_support.proofs.counts.Counts.frees.Symbol as c_sym
 use Rattle.test_support.proofs.counts.Counts.frees.Met as c_met
 use Rattle.test_support.specs.contracts.RefusingHeap as wrapper
@@ -87,16 +58,7 @@ module _ (Z : Al) where
   ended = F.ended Z.row Z.g Z.d Z.drops
 
   abbrev stayed : Stays ended.signature.params ended.kept
-  stayed = (
-    stay_dropped self yes,
-    (
-      stay_dropped (plain (λ _. RawPtr)) yes,
-      (
-        stay_dropped (plain (λ _. usize)) yes,
-        (stay_dropped (plain (λ _. usize)) yes, tt),
-      ),
-    ),
-  )
+  stayed = (stay_dropped self yes, (dropped RawPtr, (dropped usize, (dropped usize, tt))))
 
 module _ (Z : Al) {M : Type 1} {𝓤 : Ura M} (𝓛 : Logic 𝓤) (at_mem : Memory → SProp 𝓤) (run : Routine
     → Fun 𝓤) (𝓣 : Tables 𝓤 𝓛.H) (de : Triple 𝓤 (𝓣.C (gives_key Z)) (Gives Z 𝓛 at_mem run))
@@ -109,22 +71,9 @@ module _ (Z : Al) {M : Type 1} {𝓤 : Ura M} (𝓛 : Logic 𝓤) (at_mem : Memo
   module _ (κ₁ κ₂ : Lft) (q₁ q₂ : Share) (inn : κ₁ ⊑ κ₂) (r : Bor (wrapper.the_row Z.row).Denot) (n a : ℕ)
       (τ : Ty) where
     abbrev bound : Ptr → (walk_of 𝓛 (ended Z) (stayed Z) held).Ghost
-    bound x = (
-      (
-        (κ₁, (κ₂, tt)),
-        (q₁, (q₂, tt)),
-        (inn, tt),
-        (r, (x, (n, (a, tt)))),
-        (
-          shr_vals r,
-          (
-            rawptr_vals x,
-            (vint w64 n ∷ [], (vint w64 a ∷ [], tt)),
-          ),
-        ),
-      ),
-      τ,
-    )
+    bound x =
+        let words : List Val × (List Val × Unit {0}) = (word n, (word a, tt)) in
+        (((κ₁, (κ₂, tt)), (q₁, (q₂, tt)), (inn, tt), (r, (x, (n, (a, tt)))), (shr_vals r, (rawptr_vals x, words))), τ)
 
     abbrev vs : Ptr → List Val
     vs x = vptr r.ref_ptr.0 r.ref_ptr.1 ∷ ptr_val x ∷ vint w64 n ∷ vint w64 a ∷ []
@@ -157,13 +106,8 @@ module _ (Z : Al) {M : Type 1} {𝓤 : Ura M} (𝓛 : Logic 𝓤) (at_mem : Memo
         split ! $ split ! $ move ! (2 ∷ []) $ fsplit ! $ fsplit ! $ move !
         (1 ∷ []) $ unhide ! $ fsplit ! $ fsplit ! $ use1 𝓛 (‵ (seen Z κ₁ p h))
         (id⊢ 𝓤 _) $ move ! (1 ∷ []) $ fsplit ! $ keep ! (0 ∷ 6 ∷ 2 ∷ 7 ∷ 8 ∷ []) $
-        enter ! 𝓣.C 𝓣.Λ (here Z) (vs x) _ $ alloc_all ! (λ l. pass_all ! refl (
-          (tt, tt),
-          (
-            (tt, tt),
-            ((tt, record { fits = fn }), ((tt, record { fits = fa }), tt)),
-          ),
-        ) $
+        enter ! 𝓣.C 𝓣.Λ (here Z) (vs x) _ $ alloc_all ! (λ l.
+        pass_all ! refl ((tt, tt), ((tt, tt), ((tt, record { fits = fn }), ((tt, record { fits = fa }), tt)))) $
         sets ! (addr ! (through ! refl (fld ! refl (stop !)))) refl (tt, tt) $
         use2 𝓛 (raw ((Frees 𝓛 at_mem run).pre (at_frees 𝓛 at_mem run κ₁ q₁ r.now.counts c n)))
         (Frees-goes 𝓛 at_mem run κ₁ q₁ r.now.counts c n fn) $
@@ -194,19 +138,12 @@ deallocate_spec 𝓤 𝓛 𝓜 𝓡 wired Y L g d d' met _ =
     let A = 𝓛.A in
     let 𝓣 : Tables 𝓤 𝓛.H = tables_of 𝓤 𝓛.H 𝓜 (tables 𝓤 𝓛.H 𝓜 𝓡 𝓡.env) in
     let c = F.clauses Y g d d' 𝓛 𝓜.mem 𝓡.returns in
+    let gone = Goes-dropped 𝓛 2 (plain (λ _. usize)) yes (λ κs x f. refl) in
+    let pointer_gone = Goes-dropped 𝓛 2 (plain (λ _. RawPtr)) yes (λ κs x f. refl) in
     entered 𝓤 𝓛.H (triple_of 𝓛 (F.signature Y) (F.spec Y g d d' 𝓛 𝓜.mem 𝓡.returns)) 𝓣.C 𝓣.Λ (key.name (args Z))
     (here Z) (code.unfolded 𝓤 𝓛.H 𝓜 𝓡 wired (Y, tt) d d')
-    (walk_Meets 𝓛 (ended Z) (stayed Z) (
-      Goes-dropped 𝓛 2 (self Z) yes (λ κs x f. refl),
-      (
-        Goes-dropped 𝓛 2 (plain
-            (λ _. RawPtr)) yes (λ κs x f. refl),
-        (
-          Goes-dropped 𝓛 2 (plain (λ _. usize)) yes (λ κs x f. refl),
-          (Goes-dropped 𝓛 2 (plain (λ _. usize)) yes (λ κs x f. refl), tt),
-        ),
-      ),
-    ) c (WpFn 𝓤 𝓛.H 𝓣.C 𝓣.Λ (here Z))
+    (walk_Meets 𝓛 (ended Z) (stayed Z)
+    (Goes-dropped 𝓛 2 (self Z) yes (λ κs x f. refl), (pointer_gone, (gone, (gone, tt)))) c (WpFn 𝓤 𝓛.H 𝓣.C 𝓣.Λ (here Z))
     (WpFn-mono 𝓤 𝓛.H 𝓛.laws 𝓣 (here Z))
     (walked 𝓛 (ended Z) (stayed Z) c (WpFn 𝓤 𝓛.H 𝓣.C 𝓣.Λ (here Z))
     (λ κs. (shr_vals, (rawptr_vals, (uint_vals w64, (uint_vals w64, tt)))))

@@ -1,6 +1,6 @@
 -- It counts the bytes that the block loses, and answers what the inner allocator answers. Assumes `Logic`.
 use Prim.Native.Nat.{ℕ, ◌+◌, ◌<◌, ◌^◌}
-use mathlib.Core.Path.{refl}
+use mathlib.Core.Path.{refl, ◌≡◌}
 use mathlib.Core.List.{List, [], ◌∷◌}
 use seplogic.Ra.Ura.{Ura}
 use mir.Syntax.{Args, Fn, a_type, w64, dnil, dcons}
@@ -17,35 +17,8 @@ use contract.BorrowLft.{◌⊑◌, ⊑_trans}
 use contract.Monad.{Fun}
 use contract.Running.{tables, tables_of}
 use sound.WpLaws.{fm_of, WpFn-mono}
-use types.Kit.{
-  Item,
-  ‵,
-  raw,
-  ◌⊛◌,
-  some,
-  later,
-  given,
-  ◌$◌,
-  ◌∵◌,
-  !,
-  qed,
-  by,
-  move,
-  keep,
-  use0,
-  use1,
-  use2,
-  split,
-  split3,
-  join,
-  pick,
-  learn,
-  fsplit,
-  fjoin,
-  suffices,
-  await,
-  done,
-}
+use types.Kit.{Item, ‵, raw, ◌⊛◌, some, later, given, ◌$◌, ◌∵◌, !, qed, by, move, keep, use0, use1, use2, split, split3}
+use types.Kit.{join, pick, learn, fsplit, fjoin, suffices, await, done}
 use types.Run.{stop, fld, addr, size_word, no_more, and_then, returns, enter}
 use types.ByLocal.{alloc_all, pass_all, free_all, look_at, get, through, sets, lands_as}
 use denote.Exit.{yes}
@@ -65,24 +38,12 @@ use denote.Triple.Statement.{Triple, Contract}
 use denote.Triple.Table.{entered, cited}
 use denote.Triple.Walked.{Stays, stay_dropped, walk_of, ends_at, walked, Goes-dropped, walk_Meets}
 use mathlib.Core.Bool.{Bool}
-use mathlib.Core.Path.{◌≡◌}
 use Rattle.std.specs.Allocator.{block_with_items}
 use Rattle.std.proofs.alloc.Calls.{Al, α, seen, token, Answer, answer_val, Answer-typed}
-use Rattle.std.proofs.alloc.Resizes.{
-  Shrinks,
-  resize_key,
-  Resizes,
-  at_resizes,
-  left_by,
-  Resizes-goes,
-  Resizes-gives,
-  result_of,
-  result_own,
-  asked,
-  heard_all,
-}
+use Rattle.std.proofs.alloc.Resizes.{Shrinks, resize_key, Resizes, at_resizes, left_by, Resizes-goes, Resizes-gives}
+use Rattle.std.proofs.alloc.Resizes.{result_of, result_own, asked, heard_all}
 use Rattle.test_support.proofs.Counting as counting
-use Rattle.test_support.proofs.Counting.{at_shrinks, Shrinks-goes, Shrinks-gives}
+use Rattle.test_support.proofs.Counting.{word, dropped, at_shrinks, Shrinks-goes, Shrinks-gives}
 use Rattle.test_support.proofs.counts.Counts.shrinks.Symbol as c_sym
 use Rattle.test_support.proofs.counts.Counts.shrinks.Met as c_met
 use Rattle.test_support.specs.contracts.RefusingHeap as wrapper
@@ -105,16 +66,7 @@ module _ (Z : Al) (X : RattleType) where
   ended = F.ended Z.row X Z.g Z.d Z.drops
 
   abbrev stayed : Stays ended.signature.params ended.kept
-  stayed = (
-    stay_dropped self yes,
-    (
-      stay_dropped (plain (λ _. RawPtr)) yes,
-      (
-        stay_dropped (plain (λ _. usize)) yes,
-        (stay_dropped (plain (λ _. usize)) yes, (stay_dropped (plain (λ _. usize)) yes, tt)),
-      ),
-    ),
-  )
+  stayed = (stay_dropped self yes, (dropped RawPtr, (dropped usize, (dropped usize, (dropped usize, tt)))))
 
 module _ (Z : Al) (X : RattleType) {M : Type 1} {𝓤 : Ura M} (𝓛 : Logic 𝓤) (at_mem : Memory → SProp 𝓤) (run : Routine
     → Fun 𝓤) (𝓣 : Tables 𝓤 𝓛.H)
@@ -137,10 +89,7 @@ module _ (Z : Al) (X : RattleType) {M : Type 1} {𝓤 : Ura M} (𝓛 : Logic �
         (q₁, (q₂, (qT, tt))),
         (inn, tt),
         (r, (x, (len, (old, (new, tt))))),
-        (
-          shr_vals r,
-          (rawptr_vals x, (vint w64 len ∷ [], (vint w64 old ∷ [], (vint w64 new ∷ [], tt)))),
-        ),
+        (shr_vals r, (rawptr_vals x, (word len, (word old, (word new, tt))))),
       ),
       xs,
     )
@@ -184,10 +133,7 @@ module _ (Z : Al) (X : RattleType) {M : Type 1} {𝓤 : Ura M} (𝓛 : Logic �
         -- [the counts; κ₁'s token; the inner handle; the block; κT's and κ₂'s tokens]
         enter ! 𝓣.C 𝓣.Λ (here Z X) (vs x) _ $ alloc_all ! (λ l. pass_all ! refl (
           (tt, tt),
-          (
-            (tt, tt),
-            ((tt, record { fits = fl }), ((tt, record { fits = fo }), ((tt, record { fits = fn }), tt))),
-          ),
+          ((tt, tt), ((tt, record { fits = fl }), ((tt, record { fits = fo }), ((tt, record { fits = fn }), tt)))),
         ) $
         sets ! (addr ! (through ! refl (fld ! refl (stop !)))) refl (tt, tt) $
         use2 𝓛 (raw ((counting.Shrinks 𝓛 at_mem run).pre (at_shrinks 𝓛 at_mem run κ₁ q₁ r.now.counts c s old new)))
@@ -225,27 +171,13 @@ shrink_spec 𝓤 𝓛 𝓜 𝓡 wired Y X LY L g d d' met _ =
     let A = 𝓛.A in
     let 𝓣 : Tables 𝓤 𝓛.H = tables_of 𝓤 𝓛.H 𝓜 (tables 𝓤 𝓛.H 𝓜 𝓡 𝓡.env) in
     let c = F.clauses Y X g d d' 𝓛 𝓜.mem 𝓡.returns in
-    let gone = λ (V : RattleType). Goes-dropped 𝓛 3 (plain (λ _. V)) yes in
+    let gone = Goes-dropped 𝓛 3 (plain (λ _. usize)) yes (λ κs x f. refl) in
+    let pointer_gone = Goes-dropped 𝓛 3 (plain (λ _. RawPtr)) yes (λ κs x f. refl) in
     entered 𝓤 𝓛.H (triple_of 𝓛 (F.signature Y X) (F.spec Y X g d d' 𝓛 𝓜.mem 𝓡.returns)) 𝓣.C 𝓣.Λ (key.name (args Z X))
     (here Z X) (code.unfolded 𝓤 𝓛.H 𝓜 𝓡 wired (Y, (X, tt)) d d')
-    (walk_Meets 𝓛 (ended Z X) (stayed Z X) (
-      Goes-dropped 𝓛 3 (self Z X) yes (λ κs x f. refl),
-      (
-        gone RawPtr
-            (λ κs x f. refl),
-        (
-          gone usize (λ κs x f. refl),
-          (
-            gone usize (λ κs x f. refl),
-            (
-              gone usize
-                  (λ κs x f. refl),
-              tt,
-            ),
-          ),
-        ),
-      ),
-    ) c (WpFn 𝓤 𝓛.H 𝓣.C 𝓣.Λ (here Z X)) (WpFn-mono 𝓤 𝓛.H 𝓛.laws 𝓣 (here Z X))
+    (walk_Meets 𝓛 (ended Z X) (stayed Z X)
+    (Goes-dropped 𝓛 3 (self Z X) yes (λ κs x f. refl), (pointer_gone, (gone, (gone, (gone, tt))))) c
+    (WpFn 𝓤 𝓛.H 𝓣.C 𝓣.Λ (here Z X)) (WpFn-mono 𝓤 𝓛.H 𝓛.laws 𝓣 (here Z X))
     (walked 𝓛 (ended Z X) (stayed Z X) c (WpFn 𝓤 𝓛.H 𝓣.C 𝓣.Λ (here Z X))
     (λ κs. (shr_vals, (rawptr_vals, (uint_vals w64, (uint_vals w64, (uint_vals w64, tt))))))
     (λ κs. ((λ r vs s. s.0), (rawptr_Tells, (uint_Tells w64, (uint_Tells w64, (uint_Tells w64, tt))))))
