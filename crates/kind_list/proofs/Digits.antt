@@ -1,30 +1,22 @@
 -- Kinds as the digits of a number.
-use Rattle.std.proofs.Common.{◌≡◌, ℕ, zero, suc, ◌+◌, ◌*◌, ◌/◌, ◌%◌, ◌^◌, ◌<◌, ◌≤◌, List, [], ◌∷◌, ◌++◌, length}
-use Rattle.std.proofs.Common.{take, drop, map, get_or, refl, sym, ◌∙◌, ap, subst, arith}
-use Rattle.std.specs.List.{All}
+use Rattle.std.proofs.Common.{◌≡◌, ℕ, zero, suc, ◌+◌, ◌*◌, ◌/◌, ◌%◌, ◌^◌, ◌<◌, ◌≤◌, List, [], ◌∷◌, ◌++◌, length, take}
+use Rattle.std.proofs.Common.{drop, get_or, refl, ◌∙◌, ap, arith}
 use Rattle.std.proofs.lemmas.Nat.{shr_below}
 use Rattle.std.proofs.Math.Pow.{pow_mono}
-use Rattle.std.proofs.lemmas.List.{drop_more, length-append, length-drop, length-take-le}
-use Rattle.std.proofs.lemmas.List.Elements.{All-nil, All-cons, All-head, All-tail}
+use Rattle.std.proofs.lemmas.List.{drop_more, take_all, length-append, length-drop, length-take-le}
+use Rattle.std.proofs.lemmas.List.Elements.{All-nil, All-head, All-tail}
 use Rattle.vcode_base.specs.declared.kind.Kind.{Kind}
-use Rattle.vcode_base.specs.declared.kind.Kind.TheVariants.{Int, Bool, Segdes}
 use Rattle.kind_list.specs.Packed.{digit_of, kind_of_digit, digits_of, kinds_of, packed, AreKinds, IsPacked, IsChunk}
 use Rattle.kind_list.proofs.Values.{IsValue, value-lt, value-append, value-drop, value-take}
 
 digit-lt : (k : Kind) → digit_of k < 3
-digit-lt Int = omega arith
-digit-lt Bool = omega arith
-digit-lt Segdes = omega arith
+digit-lt k = grind arith
 
 kind_back : (k : Kind) → kind_of_digit (digit_of k) ≡ k
-kind_back Int = refl
-kind_back Bool = refl
-kind_back Segdes = refl
+kind_back k = grind arith
 
 digit_back : (d : ℕ) → d < 3 → digit_of (kind_of_digit d) ≡ d
-digit_back zero small = refl
-digit_back (suc zero) small = refl
-digit_back (suc (suc d)) small = omega arith
+digit_back d small = grind arith
 
 pub packed_value : IsValue packed 2 digit_of
 unfolding packed
@@ -48,11 +40,6 @@ pub ruleset packed_steps = (packed_lt, packed_room, packed_at)
 
 -- ---- the number of kinds, and the kinds of a number
 
--- the number is that of these kinds
-pub record Holds (count n : ℕ) (ks : List Kind) : Type 0 where
-  pub long : count ≡ length ks
-  pub is : n ≡ packed ks
-
 pub length_kinds : (count n : ℕ) → length (kinds_of count n) ≡ count
 unfolding digits_of
 length_kinds zero n = refl
@@ -62,35 +49,36 @@ packed_back : (count n : ℕ) → n < 2 ^ (2 * count) → AreKinds count n → p
 unfolding digits_of packed
 packed_back zero n fits kinds = omega arith
 packed_back (suc count) n fits kinds =
-    let rest = digits_of count (n / 4) in
     let next : 2 * suc count ≡ 2 * count + 2 = omega arith in
-    omega (
-      arith,
-      digit_back (n % 4) (All-head (λ d. d < 3) (n % 4) rest kinds),
-      packed_back count (n / 4) (shr_below n (2 * count) 2 (rw next at fits))
-          (All-tail (λ d. d < 3) (n % 4) rest kinds),
-    )
+    let below = shr_below n (2 * count) 2 (rw next at fits) in
+    let rest = packed_back count (n / 4) below (All-tail (λ d. d < 3) (n % 4) _ kinds) in
+    grind (arith, digit_back, rest, All-head (λ d. d < 3) (n % 4) _ kinds)
+
+-- what is known of the kinds of a number, and of the number of kinds
+pub kinds_known : (count n : ℕ) → IsPacked count n
+    → (kinds_of count n ≡ kinds_of count n) × (length (kinds_of count n) ≡ count) × (packed (kinds_of count n) ≡ n)
+kinds_known count n p = (refl, length_kinds count n, packed_back count n p.fits p.kinds)
+
+pub kinds_packed : (ks : List Kind)
+    → (packed ks ≡ packed ks) × (kinds_of (length ks) (packed ks) ≡ ks) × IsPacked (length ks) (packed ks)
+unfolding digits_of packed
+kinds_packed [] = (refl, refl, record { fits = omega arith; kinds = All-nil (λ d. d < 3) })
+kinds_packed (k ∷ ks) = grind (arith, digit-lt k, kind_back k, kinds_packed ks, packed_lt (k ∷ ks))
+
+pub ruleset known = (kinds_known, kinds_packed)
+
+pub ruleset lengths = (length_kinds, take_all, length-drop)
+
+-- the number is that of these kinds
+pub record Holds (count n : ℕ) (ks : List Kind) : Type 0 where
+  pub long : count ≡ length ks
+  pub is : n ≡ packed ks
 
 pub holds : {count n : ℕ} {ks : List Kind} → IsPacked count n → kinds_of count n ≡ ks → Holds count n ks
-holds {count} {n} p is = record {
-  long = sym (length_kinds count n) ∙ ap length is;
-  is = sym (packed_back count n p.fits p.kinds) ∙ ap packed is;
-}
-
-kinds_back : (ks : List Kind) → AreKinds (length ks) (packed ks) × (kinds_of (length ks) (packed ks) ≡ ks)
-unfolding digits_of packed
-kinds_back [] = (All-nil (λ d. d < 3), refl)
-kinds_back (k ∷ ks) =
-    let low : (packed ks * 4 + digit_of k) % 4 ≡ digit_of k = omega (arith, digit-lt k) in
-    let high : (packed ks * 4 + digit_of k) / 4 ≡ packed ks = omega (arith, digit-lt k) in
-    let rest = kinds_back ks in
-    subst (λ ds. All (λ d. d < 3) ds × (map kind_of_digit ds ≡ k ∷ ks))
-    (λ i. sym low i ∷ digits_of (length ks) (sym high i))
-    (All-cons (λ d. d < 3) _ _ (digit-lt k) rest.0, λ i. kind_back k i ∷ rest.1 i)
+holds {count} {n} p is = grind (arith, kinds_known count n p)
 
 pub held : {count n : ℕ} {ks : List Kind} → Holds count n ks → IsPacked count n × (kinds_of count n ≡ ks)
-held {ks = ks} h =
-    rw (h.long, h.is) (record { fits = packed_lt ks; kinds = (kinds_back ks).0 }, (kinds_back ks).1)
+held {ks = ks} h = grind (arith, kinds_packed ks, h.long, h.is)
 
 pub held_chunk : {count n : ℕ} {ks : List Kind} → count ≤ 32 → Holds count n ks
     → IsChunk count n × (kinds_of count n ≡ ks)
@@ -100,24 +88,15 @@ held_chunk few h = (record { few = few; packed = (held h).0 }, (held h).1)
 
 pub Holds-append : {count n more m new : ℕ} {ks ls : List Kind} → Holds count n ks → Holds more m ls
     → new ≡ m * 2 ^ (2 * count) + n → Holds (count + more) new (ks ++ ls)
-Holds-append {ks = ks} {ls = ls} h also is = record {
-  long = omega (arith, length-append ks ls);
-  is = rw (is, h.long, h.is, also.is) (sym (value-append packed_value ks ls));
-}
+Holds-append {ks = ks} {ls = ls} h also is = grind (arith, h, also, length-append, value-append packed_value ks ls)
 
 pub Holds-take : {count n new : ℕ} {ks : List Kind} (i : ℕ) → i ≤ count → Holds count n ks → new ≡ n % 2 ^ (2 * i)
     → Holds i new (take i ks)
-Holds-take {ks = ks} i within h is = record {
-  long = sym (length-take-le i ks (omega arith));
-  is = rw (is, h.is) (value-take packed_value i ks (omega arith));
-}
+Holds-take i within h is = grind (arith, h, length-take-le, value-take packed_value)
 
 pub Holds-drop : {count n new : ℕ} {ks : List Kind} (i rest : ℕ) → i + rest ≡ count → Holds count n ks
     → new ≡ n / 2 ^ (2 * i) → Holds rest new (drop i ks)
-Holds-drop {ks = ks} i rest all h is = record {
-  long = omega (arith, length-drop i ks);
-  is = rw (is, h.is) (value-drop packed_value i ks (omega arith));
-}
+Holds-drop i rest all h is = grind (arith, h, length-drop, value-drop packed_value)
 
 pub Holds-lt : {count n : ℕ} {ks : List Kind} → Holds count n ks → n < 2 ^ (2 * count)
 Holds-lt {ks = ks} h = rw (h.long, h.is) (packed_lt ks)

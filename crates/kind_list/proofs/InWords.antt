@@ -1,74 +1,45 @@
 -- Kinds that words hold.
-use Rattle.std.proofs.Common.{◌≡◌, ℕ, ◌+◌, ◌-◌, ◌*◌, ◌/◌, ◌%◌, ◌^◌, ◌<◌, ◌≤◌, List, [], ◌∷◌, ◌++◌, length}
-use Rattle.std.proofs.Common.{take, drop, get_or, refl, sym, ◌∙◌, ap, arith}
-use Rattle.std.proofs.Math.Nat.{mod-eq_of_lt}
+use Rattle.std.proofs.Common.{◌≡◌, ℕ, ◌+◌, ◌-◌, ◌*◌, ◌/◌, ◌%◌, ◌^◌, ◌<◌, ◌≤◌, List, [], ◌∷◌, ◌++◌, length, take, drop}
+use Rattle.std.proofs.Common.{get_or, refl, sym, ◌∙◌, ap, arith}
+use Rattle.std.proofs.Math.Nat.{mod-eq_of_lt, div-le_self, div-add-mod}
 use Rattle.std.proofs.Math.Pow.{pow_mono}
-use Rattle.std.proofs.Math.Seq.{take-add}
-use Rattle.std.proofs.lemmas.Nat.{shr_high, mod_low}
-use Rattle.std.proofs.lemmas.List.{append_assoc, take-append-drop, take-append-le, length-take-le, length_push}
-use Rattle.std.proofs.lemmas.List.{drop-drop}
+use Rattle.std.proofs.lemmas.Nat.{pow-add, pow_pos, shr_high, shr_below, shr-shr, mod_below, mod-pow-add}
+use Rattle.std.proofs.lemmas.List.{take-append-le, take_all, length-take-le, length_push, get_or_push}
 use Rattle.vcode_base.specs.declared.kind.Kind.{Kind}
-use Rattle.kind_list.specs.Packed.{packed, kinds_of, IsPacked, IsChunk}
+use Rattle.kind_list.specs.Packed.{kinds_of, IsPacked, IsChunk}
 use Rattle.kind_list.specs.Words.{number_of}
 use Rattle.kind_list.specs.Lists.{number_in, kinds_in, AreInWords}
 use Rattle.kind_list.proofs.Values.{value-lt, value-append, value-drop, value-take}
 use Rattle.kind_list.proofs.Digits.{Holds, holds, held, held_chunk, Holds-append, Holds-take, Holds-drop, Holds-lt}
-use Rattle.kind_list.proofs.Numbers.{number_value, low_there}
+use Rattle.kind_list.proofs.Numbers.{number_value, low_there, word_lt}
 
 -- a last word after others
 number_more : (ws : List ℕ) (last : ℕ) → last < 2 ^ 64 → number_in ws last ≡ last * 2 ^ (64 * length ws) + number_of ws
 unfolding number_of
-number_more ws last fits =
-    let one : number_of (last ∷ []) ≡ last = omega (arith, mod-eq_of_lt fits) in
-    value-append number_value ws (last ∷ []) ∙ ap (λ n. n * 2 ^ (64 * length ws) + number_of ws) one
+number_more ws last fits = grind (arith, mod-eq_of_lt fits, value-append number_value ws (last ∷ []))
 
--- the kinds of the full words, and those of the last
-pub record HoldsWords (len : ℕ) (ws : List ℕ) (last : ℕ) (ks : List Kind) : Type 0 where
-  pub full : length ws ≡ len / 32
-  pub whole : Holds len (number_in ws last) ks
-  pub front : Holds (32 * (len / 32)) (number_of ws) (take (32 * (len / 32)) ks)
-  pub rest : Holds (len % 32) last (drop (32 * (len / 32)) ks)
+-- the number of the words, of which the last has the highest bits
+record Parts (len : ℕ) (ws : List ℕ) (last : ℕ) : Type 0 where
+  number : number_in ws last ≡ last * 2 ^ (64 * (len / 32)) + number_of ws
+  high : number_in ws last / 2 ^ (64 * (len / 32)) ≡ last
 
-pub words_hold : {len : ℕ} {ws : List ℕ} {last : ℕ} {ks : List Kind} → AreInWords len ws last
-    → kinds_in len ws last ≡ ks → HoldsWords len ws last ks
-words_hold {len} {ws} {last} {ks} words is =
-    let q = len / 32 in
-    let whole = holds words.packed is in
-    let number : number_in ws last ≡ last * 2 ^ (2 * (32 * q)) + number_of ws =
-    rw (let e : 2 * (32 * q) ≡ 64 * length ws = omega (arith, words.full) in e) (number_more ws last words.fits) in
-    let small : number_of ws < 2 ^ (2 * (32 * q)) =
-    rw (let e : 2 * (32 * q) ≡ 64 * length ws = omega (arith, words.full) in e) (value-lt number_value ws) in
-    let front = Holds-take (32 * q) (omega arith) whole refl in
-    let rest = Holds-drop (32 * q) (len % 32) (omega arith) whole refl in
+parts : {len : ℕ} {ws : List ℕ} {last : ℕ} → AreInWords len ws last → Parts len ws last
+parts {len} {ws} {last} words =
+    let number = number_more ws last words.fits in
     record {
-      full = words.full;
-      whole = whole;
-      front = record {
-        long = front.long;
-        is = sym (ap (λ n. n % 2 ^ (2 * (32 * q))) number ∙ mod_low _ _ _ small) ∙ front.is;
-      };
-      rest = record {
-        long = rest.long;
-        is = sym (ap (λ n. n / 2 ^ (2 * (32 * q))) number ∙ shr_high _ _ _ small) ∙ rest.is;
-      };
+      number = rw (← words.full) number;
+      high = rw (← words.full) (rw number (shr_high last _ _ (value-lt number_value ws)));
     }
 
-pub held_words : {len q rest : ℕ} {ws : List ℕ} {last : ℕ} {front end ks : List Kind}
-    → Holds (32 * q) (number_of ws) front → Holds rest last end → length ws ≡ q → rest < 32 → len ≡ 32 * q + rest
-    → front ++ end ≡ ks
-    → AreInWords len ws last × (kinds_in len ws last ≡ ks)
-held_words {len} {q} {rest} {ws} {last} low high full few sum is =
-    let fits : last < 2 ^ 64 = omega (arith, Holds-lt high, pow_mono (let e : 2 * rest ≤ 64 = omega arith in e)) in
-    let number : number_in ws last ≡ last * 2 ^ (2 * (32 * q)) + number_of ws =
-    rw (let e : 2 * (32 * q) ≡ 64 * length ws = omega (arith, full) in e) (number_more ws last fits) in
-    let whole = held (Holds-append low high refl) in
-    rw (sum, ← is) (record { full = omega (arith, full); fits = fits; packed = rw number whole.0 }, rw number whole.1)
+pub last_lt : {len : ℕ} {ws : List ℕ} {last : ℕ} → AreInWords len ws last → last < 2 ^ (2 * (len % 32))
+last_lt {len} {ws} {last} words =
+    let below = shr_below (number_in ws last) (2 * (len % 32)) (64 * (len / 32)) in
+    grind (arith, words.packed.fits, (parts words).high, below)
 
-pub no_words : {ws : List ℕ} → ws ≡ [] → AreInWords 0 ws 0 × (kinds_in 0 ws 0 ≡ [])
-unfolding number_of packed
-no_words is =
-    rw is (held_words {q = 0} {front = []} (record { long = refl; is = refl }) (record { long = refl; is = refl }) refl
-    (omega arith) refl refl)
+-- the words hold the kinds of their number
+held_number : {len n : ℕ} {ws : List ℕ} {last : ℕ} {ks : List Kind} → Holds len n ks → length ws ≡ len / 32
+    → last < 2 ^ 64 → number_in ws last ≡ n → AreInWords len ws last × (kinds_in len ws last ≡ ks)
+held_number h full fits number = grind (arith, held h)
 
 -- a stretch of the kinds
 pub stretch : {len count : ℕ} {ws : List ℕ} {last : ℕ} {ks : List Kind} (from : ℕ) → AreInWords len ws last
@@ -84,38 +55,54 @@ pub last_stretch : {len count : ℕ} {ws : List ℕ} {last : ℕ} {ks : List Kin
     → kinds_in len ws last ≡ ks → count ≤ len % 32
     → IsChunk count (last / 2 ^ (2 * (len % 32 - count)))
     × (kinds_of count (last / 2 ^ (2 * (len % 32 - count))) ≡ drop (length ks - count) ks)
-last_stretch {len} {count} {ks = ks} words is few =
-    let parts = words_hold words is in
-    let h = Holds-drop (len % 32 - count) count (omega arith) parts.rest refl in
-    let all = parts.whole in
-    rw (
-      let e : length ks - count ≡ 32 * (len / 32) + (len % 32 - count) = omega arith in e,
-      ← drop-drop (len % 32 - count) (32 * (len / 32)) ks,
-    ) (held_chunk (omega arith) h)
+last_stretch {len} {count} {ws} {last} words is few =
+    let all = holds words.packed is in
+    let from = 2 * (len % 32 - count) in
+    let place : 64 * (len / 32) + from ≡ 2 * (len - count) = omega arith in
+    let here = ap (λ n. n / 2 ^ from) (sym (parts words).high) ∙ shr-shr (number_in ws last) (64 * (len / 32)) from in
+    rw (← all.long) (held_chunk (omega arith) (Holds-drop (len - count) count (omega arith) all (rw place at here)))
 
--- more kinds in the last word, of which some may be taken off before
-in_word : {len part low count bits new : ℕ} {ws : List ℕ} {last : ℕ} {ks end ls : List Kind} → HoldsWords len ws last ks
-    → Holds part low end → Holds count bits ls → part + count < 32
-    → new ≡ bits % 2 ^ (64 - 2 * part) * 2 ^ (2 * part) + low
-    → AreInWords (32 * (len / 32) + (part + count)) ws new
-    × (kinds_in (32 * (len / 32) + (part + count)) ws new ≡ (take (32 * (len / 32)) ks ++ end) ++ ls)
-in_word {part = part} {low = low} {count = count} {bits = bits} {ks = ks} {end = end} {ls = ls} words kept more few is =
-    let room : bits < 2 ^ (64 - 2 * part) =
-    omega (arith, Holds-lt more, pow_mono (let e : 2 * count ≤ 64 - 2 * part = omega arith in e)) in
-    let made = Holds-append kept more (is ∙ ap (λ n. n * 2 ^ (2 * part) + low) (mod-eq_of_lt room)) in
-    held_words words.front made words.full few refl (sym (append_assoc _ end ls))
+-- the kinds below a place
+pub below : {len new : ℕ} {ws vs : List ℕ} {last : ℕ} {ks : List Kind} → AreInWords len ws last
+    → kinds_in len ws last ≡ ks → new ≤ len → vs ≡ take (new / 32) ws
+    → AreInWords new vs (get_or (ws ++ last ∷ []) (new / 32) 0 % 2 ^ (2 * (new % 32)))
+    × (kinds_in new vs (get_or (ws ++ last ∷ []) (new / 32) 0 % 2 ^ (2 * (new % 32))) ≡ take new ks)
+below {len} {new} {ws} {vs} {last} words was within is =
+    let q = new / 32 in
+    let s = 2 * (new % 32) in
+    let xs = ws ++ last ∷ [] in
+    let long = length_push ws last in
+    let some : q ≤ length ws = omega (arith, words.full) in
+    let full : length vs ≡ q = ap length is ∙ length-take-le q ws some in
+    let least : s ≤ 64 = omega arith in
+    let fits : get_or xs q 0 % 2 ^ s < 2 ^ 64 =
+    omega (arith, mod_below (get_or xs q 0) (2 ^ s) (pow_pos s), pow_mono least) in
+    let number : number_in vs (get_or xs q 0 % 2 ^ s) ≡ number_of xs % 2 ^ (2 * new) =
+    let place : 2 * new ≡ s + 64 * q = omega arith in
+    let more = number_more vs (get_or xs q 0 % 2 ^ s) fits in
+    let high = value-drop number_value q xs in
+    grind (arith, mod-pow-add, high, value-take number_value q xs, low_there xs q s, take-append-le) in
+    held_number (Holds-take new within (holds words.packed was) refl) full fits number
 
+-- more kinds in the last word
 pub pushed : {len count bits new : ℕ} {ws : List ℕ} {last : ℕ} {ks ls : List Kind} → AreInWords len ws last
     → kinds_in len ws last ≡ ks → IsPacked (length ls) bits → kinds_of (length ls) bits ≡ ls → count ≡ length ls
     → len % 32 + count < 32 → new ≡ bits % 2 ^ (64 - 2 * (len % 32)) * 2 ^ (2 * (len % 32)) + last
     → AreInWords (len + count) ws new × (kinds_in (len + count) ws new ≡ ks ++ ls)
-pushed {len} {count} {ks = ks} {ls = ls} words is packed also long few made =
-    let parts = words_hold words is in
-    rw (
-      let e : len + count ≡ 32 * (len / 32) + (len % 32 + length ls) = omega arith in e,
-      ← take-append-drop (32 * (len / 32)) ks,
-    ) (in_word parts parts.rest (holds packed also) (omega arith) made)
+pushed {len} {count} {bits} {new} {ws} {last} {ks} {ls} words was packed also long few made =
+    let s = 2 * (len % 32) in
+    let more = holds packed also in
+    let least : 2 * length ls ≤ 64 - s = omega arith in
+    let room : bits < 2 ^ (64 - s) = omega (arith, Holds-lt more, pow_mono least) in
+    let word : new ≡ bits * 2 ^ s + last = made ∙ ap (λ n. n * 2 ^ s + last) (mod-eq_of_lt room) in
+    let fits : new < 2 ^ 64 = rw word (word_lt bits last s (omega arith) room (last_lt words)) in
+    let place : 2 * len ≡ s + 64 * (len / 32) = omega arith in
+    let number : number_in ws new ≡ bits * 2 ^ (2 * len) + number_in ws last =
+    rw (number_more ws new fits, (parts words).number, words.full, word, place, pow-add 2 s (64 * (len / 32)))
+    (omega arith) in
+    rw long (held_number (Holds-append (holds words.packed was) more refl) (omega (arith, words.full)) fits number)
 
+-- the last of them are taken off before
 pub replaced : {len count more bits kept new : ℕ} {ws : List ℕ} {last : ℕ} {ks ls : List Kind} → AreInWords len ws last
     → kinds_in len ws last ≡ ks → IsPacked (length ls) bits → kinds_of (length ls) bits ≡ ls → more ≡ length ls
     → count ≤ length ks % 32 → length ks % 32 + length ls < 32 + count
@@ -123,16 +110,15 @@ pub replaced : {len count more bits kept new : ℕ} {ws : List ℕ} {last : ℕ}
     → new ≡ bits % 2 ^ (64 - 2 * (len % 32 - count)) * 2 ^ (2 * (len % 32 - count)) + kept
     → AreInWords (len - count + more) ws new
     × (kinds_in (len - count + more) ws new ≡ take (length ks - count) ks ++ ls)
-replaced {len} {count} {more} {ks = ks} {ls = ls} words is packed also long few room low made =
-    let parts = words_hold words is in
-    let part = len % 32 - count in
-    let all = parts.whole.long in
-    rw (
-      let e : len - count + more ≡ 32 * (len / 32) + (part + length ls) = omega (arith, all) in e,
-      let e : length ks - count ≡ 32 * (len / 32) + part = omega arith in e,
-      take-add (32 * (len / 32)) part ks,
-    )
-    (in_word parts (Holds-take part (omega arith) parts.rest low) (holds packed also) (omega arith) made)
+replaced {len} {count} {kept = kept} {ws = ws} {last = last} {ks = ks} words was packed also long few room low made =
+    let seen : len ≡ length ks = (holds words.packed was).long in
+    let part : len % 32 - count ≡ (len - count) % 32 = omega arith in
+    let full : length ws ≡ (len - count) / 32 = omega (arith, words.full) in
+    let all = take_all ((len - count) / 32) ws (omega arith) in
+    let word : get_or (ws ++ last ∷ []) ((len - count) / 32) 0 % 2 ^ (2 * ((len - count) % 32)) ≡ kept =
+    grind (arith, get_or_push) in
+    let cut = rw word at (below words was (let e : len - count ≤ len = omega arith in e) (sym all)) in
+    rw (← seen) (pushed cut.0 cut.1 packed also long (omega arith) (rw part at made))
 
 -- more kinds, which fill it
 pub filled : {len count sum bits one two : ℕ} {ws vs : List ℕ} {last : ℕ} {ks ls : List Kind} → AreInWords len ws last
@@ -141,55 +127,24 @@ pub filled : {len count sum bits one two : ℕ} {ws vs : List ℕ} {last : ℕ} 
     → one ≡ bits % 2 ^ (64 - 2 * (len % 32)) * 2 ^ (2 * (len % 32)) + last
     → two ≡ bits / 2 ^ (64 - 2 * (len % 32)) → vs ≡ ws ++ one ∷ []
     → AreInWords sum vs two × (kinds_in sum vs two ≡ ks ++ ls)
-filled {len} {bits = bits} {one = one} {two = two} {ws = ws} {vs = vs} {last = last} {ks = ks} {ls = ls}
+filled {len} {bits = bits} {one = one} {two = two} {ws = ws} {vs = vs} {last = last} {ls = ls}
     words was chunk also long many all first next is =
-    let parts = words_hold words was in
-    let more = holds chunk.packed also in
-    let same = parts.whole.long in
     let q = len / 32 in
-    let r = len % 32 in
-    let i = 32 - r in
-    let room : 64 - 2 * r ≡ 2 * i = omega arith in
-    let word : Holds (r + i) one (drop (32 * q) ks ++ take i ls) =
-    rw (first, room) (Holds-append parts.rest (Holds-take i (omega arith) more refl) refl) in
-    let fits : one < 2 ^ 64 = rw (let e : r + i ≡ 32 = omega arith in e) at (Holds-lt word) in
-    let number : number_of vs ≡ one * 2 ^ (2 * (32 * q)) + number_of ws =
-    rw (is, let e : 2 * (32 * q) ≡ 64 * length ws = omega (arith, words.full) in e) (number_more ws one fits) in
-    let front : Holds (32 * (q + 1)) (number_of vs) (take (32 * q) ks ++ (drop (32 * q) ks ++ take i ls)) =
-    rw (number, let e : 32 * (q + 1) ≡ 32 * q + (r + i) = omega arith in e) (Holds-append parts.front word refl) in
-    let above : Holds (length ls - i) two (drop i ls) =
-    rw (next, room) (Holds-drop i (length ls - i) (omega arith) more refl) in
-    held_words front above (omega (arith, ap length is, length_push ws one, words.full)) (omega arith) (omega arith)
-    (rw (
-      ← append_assoc (take (32 * q) ks) (drop (32 * q) ks) (take i ls),
-      take-append-drop (32 * q) ks,
-      append_assoc ks (take i ls) (drop i ls),
-      take-append-drop i ls,
-    ) refl)
-
--- the kinds below a place
-pub below : {len new : ℕ} {ws vs : List ℕ} {last : ℕ} {ks : List Kind} → HoldsWords len ws last ks → new ≤ len
-    → vs ≡ take (new / 32) ws
-    → AreInWords new vs (get_or (ws ++ last ∷ []) (new / 32) 0 % 2 ^ (2 * (new % 32)))
-    × (kinds_in new vs (get_or (ws ++ last ∷ []) (new / 32) 0 % 2 ^ (2 * (new % 32))) ≡ take new ks)
-below {len} {new} {ws} {vs} {last} {ks} words within is =
-    let q = new / 32 in
-    let r = new % 32 in
-    let xs = ws ++ last ∷ [] in
-    let long = length_push ws last in
-    let some : q ≤ length ws = omega (arith, words.full) in
-    let place : 64 * q ≡ 2 * (32 * q) = omega arith in
-    let number : number_of vs ≡ number_of xs % 2 ^ (2 * (32 * q)) =
-    rw (is, ← take-append-le q ws (last ∷ []) some, ← place)
-    (sym (value-take number_value q xs (omega (arith, long)))) in
-    let low : Holds (32 * q) (number_of vs) (take (32 * q) ks) =
-    rw number (Holds-take (32 * q) (omega arith) words.whole refl) in
-    let high : Holds r (get_or xs q 0 % 2 ^ (2 * r)) (take r (drop (32 * q) ks)) =
-    rw (
-      ← low_there xs q (2 * r) (omega (arith, long)) (omega arith),
-      ← value-drop number_value q xs (omega (arith, long)),
-      place,
-    )
-    (Holds-take r (omega arith) (Holds-drop (32 * q) (len - 32 * q) (omega arith) words.whole refl) refl) in
-    held_words low high (ap length is ∙ length-take-le q ws some) (omega arith) (omega arith)
-    (sym (take-add (32 * q) r ks) ∙ ap (λ n. take n ks) (let e : 32 * q + r ≡ new = omega arith in e))
+    let s = 2 * (len % 32) in
+    let whole = holds words.packed was in
+    let more = holds chunk.packed also in
+    let same = whole.long in
+    let low = bits % 2 ^ (64 - s) in
+    let least : 2 * length ls ≤ 64 = omega (arith, chunk.few) in
+    let fits : one < 2 ^ 64 =
+    rw first (word_lt low last s (omega arith) (mod_below bits _ (pow_pos (64 - s))) (last_lt words)) in
+    let above : two < 2 ^ 64 =
+    omega (arith, next, div-le_self bits (2 ^ (64 - s)), Holds-lt more, pow_mono least) in
+    let full : length vs ≡ q + 1 = omega (arith, ap length is, length_push ws one, words.full) in
+    let bits_are = ap (λ n. n * (2 ^ s * 2 ^ (64 * q))) (div-add-mod bits (2 ^ (64 - s))) in
+    let place : 2 * len ≡ s + 64 * q = omega arith in
+    let next_place : 64 * (q + 1) ≡ (64 - s) + (s + 64 * q) = omega arith in
+    let number : number_in vs two ≡ bits * 2 ^ (2 * len) + number_in ws last =
+    rw (number_more vs two above, full, is, number_more ws one fits, (parts words).number, words.full, place)
+    (rw (next_place, pow-add 2 (64 - s) (s + 64 * q), pow-add 2 s (64 * q), first, next) (omega (arith, bits_are))) in
+    rw (all, long) (held_number (Holds-append whole more refl) (full ∙ omega arith) above number)

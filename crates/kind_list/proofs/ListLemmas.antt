@@ -1,5 +1,5 @@
 -- Lists that grow by pieces, or are compared by them.
-use Rattle.std.proofs.Common.{◌≡◌, ℕ, ◌+◌, ◌-◌, ◌≤◌, List, ◌++◌, length, take, drop, ◌∙◌, ap, arith}
+use Rattle.std.proofs.Common.{◌≡◌, ℕ, ◌+◌, ◌-◌, ◌≤◌, List, ◌++◌, length, take, drop, arith}
 use Rattle.std.proofs.Math.Seq.{take-add}
 use Rattle.std.proofs.lemmas.List.{append_assoc, take-append-le, drop-append-le, drop-drop, drop-take, take-take}
 use Rattle.std.proofs.lemmas.List.{length-drop, length-take-le}
@@ -9,19 +9,18 @@ use Rattle.vcode_base.specs.declared.kind.Kind.{Kind}
 pub next_piece : (base src : List Kind) (place step next : ℕ) → next ≡ place + step
     → (base ++ take place src) ++ take step (drop place src) ≡ base ++ take next src
 next_piece base src place step next sum =
-    rw (sum, take-add place step src) (append_assoc base (take place src) (take step (drop place src)))
+    grind (arith, take-add place step src, append_assoc)
 
 -- the next piece of what is in a list from a place on, and of this list, which has grown since
 pub later_piece : (base src : List Kind) (from place step next : ℕ) → next ≡ place + step
     → (base ++ take place (drop from src)) ++ take step (drop (from + place) src) ≡ base ++ take next (drop from src)
 later_piece base src from place step next sum =
-    rw (← drop-drop place from src) (next_piece base (drop from src) place step next sum)
+    grind (arith, take-add place step (drop from src), append_assoc, drop-drop)
 
 pub piece_before : (ks xs : List Kind) (from step : ℕ) → from + step ≤ length ks
     → take step (drop from (ks ++ xs)) ≡ take step (drop from ks)
 piece_before ks xs from step within =
-    rw (drop-append-le from ks xs (omega arith))
-    (take-append-le step (drop from ks) xs (omega (arith, length-drop from ks)))
+    grind (arith, drop-append-le, take-append-le, length-drop)
 
 pub length_piece : (ks : List Kind) (from count : ℕ) → from + count ≤ length ks
     → length (take count (drop from ks)) ≡ count
@@ -31,18 +30,14 @@ length_piece ks from count within = length-take-le count (drop from ks) (omega (
 pub piece_within : (ks : List Kind) (from all place step : ℕ) → place + step ≤ all
     → take step (drop place (take all (drop from ks))) ≡ take step (drop (from + place) ks)
 piece_within ks from all place step within =
-    let whole : all ≡ place + (all - place) = omega arith in
-    ap (λ n. take step (drop place (take n (drop from ks)))) whole
-    ∙ rw (drop-take place (all - place) (drop from ks), drop-drop place from ks)
-    (take-take step (all - place) (drop (from + place) ks) (omega arith))
+    grind (arith, drop-take place (all - place) (drop from ks), drop-drop, take-take)
 
 -- the next piece is the same, too
 pub same_on : (ks ls piece : List Kind) (from place end : ℕ) → take place (drop from ks) ≡ take place ls
     → piece ≡ take (end - place) (drop place ls) → take (length piece) (drop (from + place) ks) ≡ piece
     → place ≤ end → end ≤ length ls → take end (drop from ks) ≡ take end ls
 same_on ks ls piece from place end so_far is here more within =
-    let step = end - place in
-    let sum : end ≡ place + step = omega arith in
-    let long : length piece ≡ step = ap length is ∙ length_piece ls place step (omega arith) in
-    rw (sum, take-add place step (drop from ks), take-add place step ls, drop-drop place from ks, so_far, ← is, ← long)
-    (ap (λ xs. take place ls ++ xs) here)
+    let one = take-add place (end - place) (drop from ks) in
+    grind (arith, one, take-add place (end - place) ls, drop-drop, length-drop, length-take-le)
+
+pub ruleset pieces = (length_piece, next_piece, later_piece, piece_before, piece_within, same_on)

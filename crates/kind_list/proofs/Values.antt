@@ -1,6 +1,5 @@
 -- Numbers by their digits, the lowest first.
-use Rattle.std.proofs.Common.{◌≡◌, ℕ, ◌+◌, ◌*◌, ◌/◌, ◌%◌, ◌^◌, ◌<◌, ◌≤◌, List, [], ◌∷◌, ◌++◌, length, take, drop}
-use Rattle.std.proofs.Common.{sym, ◌∙◌, ap, arith}
+use Rattle.std.proofs.Common.{◌≡◌, ℕ, ◌+◌, ◌*◌, ◌/◌, ◌%◌, ◌^◌, ◌<◌, ◌≤◌, List, [], ◌∷◌, ◌++◌, length, take, drop, arith}
 use Rattle.std.proofs.Math.Nat.{mul-zero, mul-suc}
 use Rattle.std.proofs.lemmas.Nat.{pow_pos, pow-add, mul-add-lt, shr_high, mod_low}
 use Rattle.std.proofs.lemmas.List.{take-append-drop, length-take-le}
@@ -21,27 +20,14 @@ module _ {A : Type 0} {value : List A → ℕ} {bits : ℕ} {digit : A → ℕ} 
   pub value-append : (xs ys : List A) → value (xs ++ ys) ≡ value ys * 2 ^ (bits * length xs) + value xs
   value-append [] ys = rw (v.none, mul-zero bits) (omega arith)
   value-append (x ∷ xs) ys =
-      rw (
-        v.more x (xs ++ ys),
-        v.more x xs,
-        value-append xs ys,
-        mul-suc bits (length xs),
-        pow-add 2 (bits * length xs) bits,
-      )
-      (omega arith)
-
-  value_parts : (i : ℕ) (xs : List A) → i ≤ length xs
-      → (value xs ≡ value (drop i xs) * 2 ^ (bits * i) + value (take i xs)) × (value (take i xs) < 2 ^ (bits * i))
-  value_parts i xs within =
-      let long = length-take-le i xs within in (
-        ap value (sym (take-append-drop i xs)) ∙ rw long at (value-append (take i xs) (drop i xs)),
-        rw long at (value-lt (take i xs)),
-      )
+      simp (v.more, value-append xs ys, mul-suc, pow-add) (omega arith)
 
   pub value-drop : (i : ℕ) (xs : List A) → i ≤ length xs → value xs / 2 ^ (bits * i) ≡ value (drop i xs)
   value-drop i xs within =
-      let parts = value_parts i xs within in rw parts.0 (shr_high _ _ _ parts.1)
+      let parts = value-append (take i xs) (drop i xs) in
+      grind (arith, parts, value-lt (take i xs), take-append-drop i xs, length-take-le i xs within, shr_high)
 
   pub value-take : (i : ℕ) (xs : List A) → i ≤ length xs → value xs % 2 ^ (bits * i) ≡ value (take i xs)
   value-take i xs within =
-      let parts = value_parts i xs within in rw parts.0 (mod_low _ _ _ parts.1)
+      let parts = value-append (take i xs) (drop i xs) in
+      grind (arith, parts, value-lt (take i xs), take-append-drop i xs, length-take-le i xs within, mod_low)

@@ -12,6 +12,7 @@ pub(crate) const WORD_DIGITS: usize = 32;
 
 /// The lowest bits: at least 1 of them, and at most all.
 #[inline(always)]
+#[tactic(auto, using(crate::proofs::Numbers::masks))]
 fn first_bits(bits: u64, count: usize) -> u64
     requires some { 0 < count }
     requires few { count ≤ 64 }
@@ -22,6 +23,7 @@ fn first_bits(bits: u64, count: usize) -> u64
 
 /// The digits below a place of the word.
 #[inline(always)]
+#[tactic(auto, using(crate::proofs::Numbers::masks))]
 pub(crate) fn digits_below(digits: u64, place: usize) -> u64
     requires { place < 32 }
     ensures { result ≡ digits % 2 ^ (2 * place) }
@@ -44,6 +46,7 @@ pub(crate) fn word_at(words: &[u64], last: u64, place: usize) -> u64
 
 /// The `count` digits from a place on, of these words and a last one.
 #[inline(always)]
+#[tactic(auto, using(crate::proofs::Numbers::reads))]
 pub(crate) fn digits_at(words: &[u64], last: u64, place: usize, count: usize) -> u64
     requires some { 0 < count }
     requires few { count ≤ 32 }

@@ -99,6 +99,7 @@ impl Chunk {
 
     /// These kinds.
     #[inline(always)]
+    #[tactic(auto, using(crate::proofs::Digits::known))]
     pub fn new(kinds: &[Kind]) -> Chunk
         requires { length kinds.now ≤ 32 }
         ensures { result ≡ kinds.now }
@@ -120,6 +121,7 @@ impl Chunk {
 
     /// The kinds as digits, that of the first lowest.
     #[inline(always)]
+    #[tactic(auto, using(crate::proofs::Digits::known))]
     pub(crate) fn digits(&self) -> u64
         ensures is { kinds_of (length self.now) result ≡ self.now }
         ensures chunk { IsChunk (length self.now) result }
@@ -139,6 +141,7 @@ impl Chunk {
 
     /// Whether these are the kinds of the other chunk.
     #[inline(always)]
+    #[tactic(auto, using(crate::proofs::Digits::known))]
     pub fn equals(&self, other: &Chunk) -> bool
         ensures { IsTrue result ↔ (self.now ≡ other.now) }
     {

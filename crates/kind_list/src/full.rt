@@ -25,6 +25,7 @@ impl Model for FullChunk {
 impl FullChunk {
     /// The kinds of a chunk.
     #[inline(always)]
+    #[tactic(auto, using(crate::proofs::Digits::known))]
     pub(crate) fn new(chunk: &Chunk) -> FullChunk
         requires { length chunk.now ≡ 32 }
         ensures { result ≡ chunk.now }

@@ -34,6 +34,7 @@ impl<A: Allocator> Model for KindList<A> {
 
 impl<A: Allocator> KindList<A> {
     /// No kinds. No memory is taken.
+    #[tactic(auto, unfolding(crate::specs::Packed::digits_of, crate::specs::Words::number_of))]
     pub fn new(alloc: A) -> KindList<A>
         ensures { result ≡ [] }
     {
@@ -69,7 +70,7 @@ impl<A: Allocator> KindList<A> {
 
     /// Drops the kinds after the first `len`.
     #[inline(always)]
-    #[tactic(auto, using(crate::proofs::Digits::length_kinds))]
+    #[tactic(auto, using(crate::proofs::Digits::lengths))]
     pub fn truncate(&mut self, len: usize)
         ensures { self.new ≡ take len self.old }
     {
@@ -131,7 +132,7 @@ impl<A: Allocator> KindList<A> {
     }
 
     #[inline(never)]
-    #[tactic(auto, using(crate::proofs::ListLemmas::length_piece, crate::proofs::ListLemmas::piece_within))]
+    #[tactic(auto, using(crate::proofs::ListLemmas::pieces))]
     fn has_many_at(&self, from: usize, kinds: &[Kind]) -> bool
         requires { from + length kinds.now ≤ length self.now }
         ensures { IsTrue result ↔ (take (length kinds.now) (drop from self.now) ≡ kinds.now) }
@@ -156,6 +157,7 @@ impl<A: Allocator> KindList<A> {
     }
 
     /// Whether the kinds from a place on are those of another list.
+    #[tactic(auto, using(crate::proofs::ListLemmas::pieces))]
     pub fn ends_with_list(&self, from: usize, other: &KindList<A>) -> bool
         requires { from ≤ length self.now }
         ensures { IsTrue result ↔ (drop from self.now ≡ other.now) }
@@ -176,7 +178,7 @@ impl<A: Allocator> KindList<A> {
 
     /// The last kinds: at most 32.
     #[inline(always)]
-    #[tactic(auto, using(crate::proofs::Digits::length_kinds))]
+    #[tactic(auto, using(crate::proofs::Digits::lengths))]
     pub fn last_chunk(&self, count: usize) -> Chunk
         requires few { count ≤ 32 }
         requires within { count ≤ length self.now }
@@ -249,6 +251,7 @@ impl<A: Allocator> KindList<A> {
     }
 
     #[inline(never)]
+    #[tactic(auto, using(crate::proofs::ListLemmas::pieces))]
     fn extend_by_many(&mut self, kinds: &[Kind]) -> Result<(), AllocError>
         ensures added { OnOk result (self.new ≡ self.old ++ kinds.now) }
         ensures unchanged { OnErr result (self.new ≡ self.old) }
@@ -346,7 +349,7 @@ impl<A: Allocator> KindList<A> {
 
     /// Adds the `count` kinds from a place of another list on at the end.
     #[inline(never)]
-    #[tactic(auto, using(crate::proofs::ListLemmas::later_piece))]
+    #[tactic(auto, using(crate::proofs::ListLemmas::pieces))]
     pub fn append_range(
         &mut self,
         other: &KindList<A>,
@@ -417,6 +420,7 @@ impl<A: Allocator> KindList<A> {
     }
 
     #[inline(never)]
+    #[tactic(auto, using(crate::proofs::ListLemmas::pieces))]
     fn repeat_many(&mut self, from: usize, count: usize) -> Result<(), AllocError>
         requires { from + count ≤ length self.old }
         ensures added { OnOk result (self.new ≡ self.old ++ take count (drop from self.old)) }

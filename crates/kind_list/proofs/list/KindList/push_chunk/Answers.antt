@@ -1,10 +1,9 @@
 use Rattle.std.proofs.Common.{arith}
-use Rattle.kind_list.proofs.Digits.{Holds-lt}
-use Rattle.kind_list.proofs.InWords.{words_hold, pushed}
+use Rattle.kind_list.proofs.InWords.{last_lt, pushed}
 use Rattle.kind_list.proofs.list.KindList.push_chunk.Goals as goal
 
 pub low_word-self-inside-requires-clause-fits : goal.low_word-self-inside-requires-clause-fits
-low_word-self-inside-requires-clause-fits g c = Holds-lt (words_hold c.self.invariant c.self.view_is).rest
+low_word-self-inside-requires-clause-fits g c = last_lt c.self.invariant
 
 pub invariant_of-self : goal.invariant_of-self
 invariant_of-self g c =

@@ -1,9 +1,8 @@
-use Rattle.kind_list.proofs.Digits.{Holds-lt}
-use Rattle.kind_list.proofs.InWords.{words_hold, filled}
+use Rattle.kind_list.proofs.InWords.{last_lt, filled}
 use Rattle.kind_list.proofs.list.KindList.push_word.Goals as goal
 
 pub low_word-requires-clause-fits : goal.low_word-requires-clause-fits
-low_word-requires-clause-fits g c = Holds-lt (words_hold c.self.invariant c.self.view_is).rest
+low_word-requires-clause-fits g c = last_lt c.self.invariant
 
 pub invariant_of-self-2 : goal.invariant_of-self-2
 invariant_of-self-2 g c =
