@@ -1,9 +1,6 @@
-pub mod ClaimLemmas
 pub mod DescriptorLemmas
 pub mod FoldLemmas
-pub mod MoveLemmas
-pub mod NameLemmas
 pub mod PackLemmas
-pub mod PieceLemmas
+pub mod PlaceLemmas
 pub mod ProgressionLemmas
 pub mod SegmentLemmas

@@ -1,12 +1,19 @@
--- A walk over segments, one after the other.
-use Rattle.std.proofs.Common.{◌≡◌, ℕ, ◌+◌, ◌-◌, ◌<◌, ◌≤◌, ℤ, pos, List, [], ◌∷◌, ◌++◌, length, take, drop}
-use Rattle.std.proofs.Common.{map, set, get_or, zip, ap, sym, ◌∙◌, arith, unsigned_abs, append_assoc, refl}
+-- A walk over the segments of one or two descriptors.
+use Rattle.std.proofs.Common.{◌≡◌, ℕ, ◌+◌, ◌-◌, ◌<◌, ◌≤◌, ℤ, pos, false, ◌||◌, List, [], ◌∷◌, ◌++◌, length}
+use Rattle.std.proofs.Common.{take, drop, set, get_or, zip, replicate, refl, ap, ◌∙◌, arith, zero, suc, unsigned_abs}
+use Rattle.std.proofs.Common.{append_assoc, length-take, length-drop}
 use Rattle.std.specs.List.{flat_map}
-use Rattle.std.proofs.lemmas.List.{drop_more, drop-drop, take_more_set}
+use Rattle.std.proofs.Math.Seq.{take-set-lt, take-append-add}
+use Rattle.std.proofs.lemmas.Grind.{common_steps}
+use Rattle.std.proofs.lemmas.Int.{ints, to_z-of_z}
+use Rattle.std.proofs.lemmas.List.{drop_more, drop-drop, drop-set-lt, take-append-le, append-nil}
+use Rattle.std.proofs.lemmas.List.{drop-replicate, take-replicate}
 use Rattle.std.proofs.lemmas.List.Sums.{sum_by-drop_more}
 use Rattle.std.proofs.lemmas.Slice.{take-put_mid}
 use borrow.Rule.Slice.PartMut.{put_mid}
-use Rattle.vcode_base.specs.Segments.{sizes, total, segments}
+use Rattle.vcode_base.specs.Elements.{is_outside}
+use Rattle.vcode_base.specs.Segments.{sizes, total, segments, pieces_of, any_outside, scatter_of, permutation_of}
+use Rattle.segment_ops.specs.Indices.{some_outside}
 
 abbrev pub size_at : List ℤ → ℕ → ℕ
 size_at s i = unsigned_abs (get_or s i (pos 0))
@@ -14,76 +21,81 @@ size_at s i = unsigned_abs (get_or s i (pos 0))
 pub total_more : (s : List ℤ) (i : ℕ) → i < length s → total (drop i s) ≡ size_at s i + total (drop (i + 1) s)
 total_more s i h = sum_by-drop_more unsigned_abs s i (pos 0) h
 
--- in a vector of n elements the segment i of the descriptor s lies from b to e
-pub record LiesFrom (s : List ℤ) (i b e n : ℕ) : Type 0 where
-  pub here : i < length s
-  pub ends : e ≡ b + size_at s i
-  pub size : e - b ≡ size_at s i
-  pub inside : e ≤ n
-  pub left : e + total (drop (i + 1) s) ≡ n
-
--- what a walk knows at its current segment
-pub lies_from : {s : List ℤ} {i b e n : ℕ} → i < length s → e ≡ b + size_at s i → b + total (drop i s) ≡ n
-    → LiesFrom s i b e n
-lies_from {s} {i} {b} {e} {n} here ends begins =
-    let more = total_more s i here in
-    record { here = here; ends = ends; size = omega arith; inside = omega arith; left = omega arith }
-
--- the segments from the one at i on: that one, and the rest
-pub segments_more : (s xs : List ℤ) (i b : ℕ) → i < length s
-    → segments (drop i s) (drop b xs) ≡ take (size_at s i) (drop b xs)
-    ∷ segments (drop (i + 1) s) (drop (b + size_at s i) xs)
-segments_more s xs i b h = rw (drop_more s i (pos 0) h, drop-drop (size_at s i) b xs) refl
-
-pub parts_more : {s : List ℤ} {i b e n : ℕ} (xs : List ℤ) → LiesFrom s i b e n
+-- the segments from the one at i on, which lies from b to e: that one, and the rest
+pub parts_more : (s xs : List ℤ) {i e : ℕ} (b : ℕ) → i < length s → e ≡ b + size_at s i
     → segments (drop i s) (drop b xs) ≡ take (e - b) (drop b xs) ∷ segments (drop (i + 1) s) (drop e xs)
-parts_more {s} {i} {b} {e} {n} xs p =
-    segments_more s xs i b p.here
-    ∙ ap (λ m. take (size_at s i) (drop b xs) ∷ segments (drop (i + 1) s) (drop m xs)) (sym p.ends)
-    ∙ ap (λ m. take m (drop b xs) ∷ segments (drop (i + 1) s) (drop e xs)) (sym p.size)
+parts_more s xs {i} {e} b here ends = grind (arith, common_steps)
 
--- the sizes from the one at i on, each with an element
-pub sized_more : {X : Type 0} {s : List ℤ} {i b e n : ℕ} (ys : List X) (d : X) → LiesFrom s i b e n → i < length ys
-    → zip (sizes (drop i s)) (drop i ys) ≡ (e - b, get_or ys i d) ∷ zip (sizes (drop (i + 1) s)) (drop (i + 1) ys)
-sized_more {X} {s} {i} {b} {e} {n} ys d p there =
-    ap (λ ns. zip (sizes ns) (drop i ys)) (drop_more s i (pos 0) p.here)
-    ∙ ap (λ zs. zip (size_at s i ∷ sizes (drop (i + 1) s)) zs) (drop_more ys i d there)
-    ∙ ap (λ m. (m, get_or ys i d) ∷ zip (sizes (drop (i + 1) s)) (drop (i + 1) ys)) (sym p.size)
+-- the front of a list whose part from k on was written
+pub front_put : (out ys : List ℤ) (k w n : ℕ) → k ≤ n → k ≤ length out → n - k ≤ length ys
+    → take n (put_mid k w out ys) ≡ take k out ++ take (n - k) ys
+front_put out ys k w n below inside room =
+    let front : n ≡ length (take k out) + (n - k) = simp length-take (omega arith) in
+    ap (λ m. take m (put_mid k w out ys)) front ∙ take-append-add (take k out) _ (n - k)
+    ∙ ap (λ zs. take k out ++ zs) (take-append-le (n - k) ys _ room)
 
--- the elements of two lists from the place i on
-pub zip_more : {X Y : Type 0} (ys : List X) (zs : List Y) (d : X) (f : Y) (i : ℕ) → i < length ys → i < length zs
-    → zip (drop i ys) (drop i zs) ≡ (get_or ys i d, get_or zs i f) ∷ zip (drop (i + 1) ys) (drop (i + 1) zs)
-zip_more ys zs d f i k l =
-    ap (λ us. zip us (drop i zs)) (drop_more ys i d k)
-    ∙ ap (λ us. zip (get_or ys i d ∷ drop (i + 1) ys) us) (drop_more zs i f l)
+-- one step of a walk that writes for each segment what F makes of it: it wrote ys from b to e
+pub flat_walk : (F : List ℤ → List ℤ) (s xs out ys : List ℤ) (i b e k : ℕ) → i < length s → e ≡ b + size_at s i
+    → b + total (drop i s) ≡ length out → length ys ≡ e - b → ys ≡ F (take (e - b) (drop b xs))
+    → take e (put_mid b k out ys) ++ flat_map F (segments (drop (i + 1) s) (drop e xs))
+    ≡ take b out ++ flat_map F (segments (drop i s) (drop b xs))
+flat_walk F s xs out ys i b e k here ends left long made =
+    let part = parts_more s xs b here ends in
+    let within = total_more s i here in
+    grind (arith, part, append_assoc, take-put_mid)
 
--- the sizes from the one at i on, each with two elements
-pub sized_pair_more : {s : List ℤ} {i b e n : ℕ} (ys zs : List ℤ) → LiesFrom s i b e n → i < length ys → i < length zs
-    → zip (sizes (drop i s)) (zip (drop i ys) (drop i zs))
-    ≡ (e - b, (get_or ys i (pos 0), get_or zs i (pos 0)))
-    ∷ zip (sizes (drop (i + 1) s)) (zip (drop (i + 1) ys) (drop (i + 1) zs))
-sized_pair_more {s} {i} {b} {e} {n} ys zs p k l =
-    ap (λ ns. zip (sizes ns) (zip (drop i ys) (drop i zs))) (drop_more s i (pos 0) p.here)
-    ∙ ap (λ us. zip (size_at s i ∷ sizes (drop (i + 1) s)) us) (zip_more ys zs (pos 0) (pos 0) i k l)
-    ∙ ap (λ m. (m, (get_or ys i (pos 0), get_or zs i (pos 0)))
-    ∷ zip (sizes (drop (i + 1) s)) (zip (drop (i + 1) ys) (drop (i + 1) zs))) (sym p.size)
+-- one segment is all of a vector
+pub distributed_one : (s xs : List ℤ) → length s ≡ 1 → length xs ≡ length s
+    → flat_map (λ (n, x). replicate n x) (zip (sizes s) xs) ≡ replicate (total s) (get_or xs 0 (pos 0))
+distributed_one [] xs one each = absurd (omega arith)
+distributed_one (k ∷ []) [] one each = absurd (omega arith)
+distributed_one (k ∷ []) (y ∷ []) one each = grind (arith, append-nil)
+distributed_one (k ∷ []) (y ∷ z ∷ xs) one each = absurd (omega arith)
+distributed_one (k ∷ j ∷ s) xs one each = absurd (omega arith)
 
--- one step of a walk that writes for each piece what F makes of it: it wrote ys from b to e
-pub flat_more : {P : Type 0} (F : P → List ℤ) (piece : P) (pieces rest : List P) (out ys whole : List ℤ) (b k e : ℕ)
-    → b ≤ length out → e ≡ b + length ys → pieces ≡ piece ∷ rest → ys ≡ F piece
-    → whole ≡ take b out ++ flat_map F pieces → whole ≡ take e (put_mid b k out ys) ++ flat_map F rest
-flat_more F piece pieces rest out ys whole b k e inside ends next made h =
-    h ∙ ap (λ ps. take b out ++ flat_map F ps) next
-    ∙ ap (λ zs. take b out ++ (zs ++ flat_map F rest)) (sym made)
-    ∙ sym (append_assoc (take b out) ys (flat_map F rest))
-    ∙ ap (λ front. front ++ flat_map F rest) (sym (take-put_mid b k out ys e ends inside))
+pub place_within : (n : ℕ) (i : ℤ) → is_outside n i ≡ false → unsigned_abs i < n
+place_within n i inside = grind (arith, ints)
 
--- one step of a walk that writes for each piece the element that f makes of it
-pub each_more : {P : Type 0} (f : P → ℤ) (piece : P) (pieces rest : List P) (out whole : List ℤ) (i : ℕ) (y : ℤ)
-    → i < length out → pieces ≡ piece ∷ rest → y ≡ f piece
-    → whole ≡ take i out ++ map f pieces → whole ≡ take (i + 1) (set out i y) ++ map f rest
-each_more f piece pieces rest out whole i y inside next made h =
-    h ∙ ap (λ ps. take i out ++ map f ps) next
-    ∙ ap (λ z. take i out ++ (z ∷ map f rest)) (sym made)
-    ∙ sym (append_assoc (take i out) (y ∷ []) (map f rest))
-    ∙ ap (λ front. front ++ map f rest) (sym (take_more_set out i y inside))
+-- the front of a list that was written at a place after b
+pub set_within : (out : List ℤ) (b j e : ℕ) (y : ℤ) → b + j < e → e ≤ length out
+    → take e (set out (b + j) y) ≡ take b out ++ set (take (e - b) (drop b out)) j y
+set_within out zero j e y within room = grind (arith, take-set-lt)
+set_within [] (suc b) j e y within room = absurd (omega arith)
+set_within (x ∷ out) (suc b) j zero y within room = absurd (omega arith)
+set_within (x ∷ out) (suc b) j (suc e) y within room =
+    let later = set_within out b j e y (omega arith) (omega arith) in grind (arith, later)
+
+pub ruleset walks = (common_steps, total_more, front_put, to_z-of_z)
+
+-- a step of a walk that replaces an element of each segment
+pub ruleset edits = (set_within, place_within, total_more, drop_more, drop-drop, drop-set-lt, append_assoc, to_z-of_z)
+
+-- a part that was filled
+pub ruleset spreads = (common_steps, take-replicate, to_z-of_z)
+
+-- the indices from c on into the segments from the one at i on: those of the next segment into xs, and the later ones
+pub outside_more : (s r xs is : List ℤ) {i e d : ℕ} (b c : ℕ) → i < length s → e ≡ b + size_at s i
+    → e ≤ length xs → i < length r → d ≡ c + size_at r i
+    → any_outside (sizes (drop i s)) (segments (drop i r) (drop c is))
+    ≡ (some_outside (length (take (e - b) (drop b xs))) (take (d - c) (drop c is))
+    || any_outside (sizes (drop (i + 1) s)) (segments (drop (i + 1) r) (drop d is)))
+outside_more s r xs is {i} {e} {d} b c here ends room there target_ends =
+    let part : length (take (e - b) (drop b xs)) ≡ size_at s i = simp (length-take, length-drop) (omega arith) in
+    rw (part, parts_more r is c there target_ends, drop_more s i (pos 0) here) refl
+
+front_zeros : (n : ℕ) (xs : List ℤ) → take n (replicate (length xs) (pos 0)) ≡ replicate (length (take n xs)) (pos 0)
+front_zeros zero xs = refl
+front_zeros (suc n) [] = refl
+front_zeros (suc n) (x ∷ xs) = ap (λ ys. pos 0 ∷ ys) (front_zeros n xs)
+
+back_zeros : (n : ℕ) (xs : List ℤ) → drop n (replicate (length xs) (pos 0)) ≡ replicate (length (drop n xs)) (pos 0)
+back_zeros n xs = grind (arith, drop-replicate, length-drop)
+
+-- to move the elements of each piece over zeros is to permute it
+pub permuted_pieces : (ns : List ℕ) (xs is : List ℤ)
+    → flat_map (λ (v, p). scatter_of v p.0 p.1)
+    (zip (pieces_of ns xs) (zip (pieces_of ns is) (pieces_of ns (replicate (length xs) (pos 0)))))
+    ≡ flat_map (λ (v, is). permutation_of v is) (zip (pieces_of ns xs) (pieces_of ns is))
+permuted_pieces [] xs is = refl
+permuted_pieces (n ∷ ns) xs is =
+    rw (front_zeros n xs, back_zeros n xs, permuted_pieces ns (drop n xs) (drop n is))

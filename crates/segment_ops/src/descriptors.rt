@@ -82,6 +82,7 @@ fn copy_lengths(lengths: &[i64], out: &mut [i64]) -> bool
 }
 
 /// The same in one pass, for so few words that their sum can't wrap if each is a length.
+#[tactic(auto, using(crate::proofs::DescriptorLemmas::sizes_checked))]
 fn copy_few_lengths(lengths: &[i64], out: &mut [i64]) -> bool
     requires room { length out.old ≡ length lengths.now }
     requires few { length lengths.now ≤ MOST_WORDS }

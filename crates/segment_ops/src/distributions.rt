@@ -13,6 +13,7 @@ const SHORT: usize = 16;
 ///
 /// `elements` has one element a segment of `descriptor`, and `out` is in its segments. INT and BOOL
 /// have one meaning.
+#[tactic(auto, using(crate::proofs::SegmentLemmas::walks, crate::proofs::SegmentLemmas::distributed_one))]
 pub(crate) fn distribute(elements: &[i64], descriptor: &[i64], out: &mut [i64])
     requires lengths { AreLengths descriptor.now }
     requires each { length elements.now ≡ length descriptor.now }
@@ -33,6 +34,7 @@ pub(crate) fn distribute(elements: &[i64], descriptor: &[i64], out: &mut [i64])
 }
 
 /// Writes the element to the first `count` places of `out`, and to those after them as it likes.
+#[tactic(auto, using(crate::proofs::SegmentLemmas::spreads))]
 fn spread(element: i64, count: usize, out: &mut [i64])
     requires room { count ≤ length out.old }
     ensures { take count out.new ≡ replicate count element }
@@ -77,6 +79,7 @@ pub(crate) fn index(firsts: &[i64], strides: &[i64], descriptor: &[i64], out: &m
 }
 
 /// Fills `out` with the numbers from `first` on, each `stride` more than the one before.
+#[tactic(auto, using(crate::proofs::ProgressionLemmas::progressions))]
 fn progress(first: i64, stride: i64, out: &mut [i64])
     ensures { out.new ≡ progression (length out.old) first stride }
 {

@@ -18,6 +18,7 @@ use vcode_base::DataFault;
 ///
 /// [`BadIndex`](DataFault::BadIndex) if an index is outside its segment, so always if a segment is
 /// empty. Then `out` holds no result.
+#[tactic(auto, using(crate::proofs::SegmentLemmas::walks, crate::proofs::SegmentLemmas::place_within))]
 pub(crate) fn extract(
     elements: &[i64],
     indices: &[i64],

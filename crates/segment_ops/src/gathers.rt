@@ -63,6 +63,7 @@ pub(crate) fn back_permute(
 /// # Errors
 ///
 /// [`BadIndex`](DataFault::BadIndex) if an index is outside `elements`. Then `out` holds no result.
+#[tactic(auto, using(crate::proofs::FoldLemmas::folds))]
 fn gather(elements: &[i64], indices: &[i64], out: &mut [i64]) -> Result<(), DataFault>
     requires small { length elements.now ≤ MOST_TOTAL }
     requires room { length out.old ≡ length indices.now }

@@ -36,6 +36,7 @@ pub(crate) fn rise_within(indices: &[i64], size: i64) -> bool
 
 /// Whether the indices rise and are all of the places `0..size`. It goes over all of them, without
 /// leaving early.
+#[tactic(auto, using(crate::proofs::PlaceLemmas::bounds))]
 fn rise(indices: &[i64], size: i64) -> bool
     requires { pos 0 ≤ℤ size }
     ensures inside { result ≡ true → some_outside (unsigned_abs size) indices.now ≡ false }

@@ -49,6 +49,7 @@ pub(crate) fn pack(
 ///
 /// Each element is written at the place of the next element that is kept, so that a step has no branch on a
 /// flag.
+#[tactic(auto, using(crate::proofs::PackLemmas::packs))]
 fn pack_segment(elements: &[i64], flags: &[i64], out: &mut [i64]) -> usize
     requires same { length flags.now ≡ length elements.now }
     requires kind { All IsFlag flags.now }

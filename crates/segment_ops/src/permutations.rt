@@ -19,6 +19,7 @@ use vcode_base::DataFault;
 /// [`BadIndex`](DataFault::BadIndex) if an index is outside its segment, else
 /// [`IndexTwice`](DataFault::IndexTwice) if two of a segment are equal. Then `out` holds no
 /// result.
+#[tactic(auto, using(crate::proofs::SegmentLemmas::permuted_pieces))]
 pub(crate) fn permute(
     elements: &[i64],
     indices: &[i64],

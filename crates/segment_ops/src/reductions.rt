@@ -68,6 +68,7 @@ fn multiply_segments(elements: &[i64], descriptor: &[i64], out: &mut [i64])
 
 /// The product of the elements of one segment. A loop of a known number of turns becomes a row of
 /// multiplications, which for few elements is faster.
+#[tactic(auto, using(crate::proofs::FoldLemmas::folds))]
 fn product_of(elements: &[i64]) -> i64
     ensures { result ≡ fold_of FoldProduct elements.now }
 {
@@ -82,6 +83,7 @@ fn product_of(elements: &[i64]) -> i64
 }
 
 /// The fold of the elements of one segment.
+#[tactic(auto, using(crate::proofs::FoldLemmas::folds))]
 fn reduce_segment<S: Combine>(elements: &[i64], start: i64) -> i64
     ensures { result ≡ folded S.combination start elements.now }
 {

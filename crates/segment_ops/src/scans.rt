@@ -12,6 +12,7 @@ use vcode_base::{Fold, Logic};
 /// the segment, so the first one of each segment is the identity.
 ///
 /// `elements` and `out` are in the segments of `descriptor`.
+#[tactic(auto, using(crate::proofs::FoldLemmas::scan_is))]
 pub(crate) fn scan(fold: Fold, elements: &[i64], descriptor: &[i64], out: &mut [i64])
     requires lengths { AreLengths descriptor.now }
     requires whole { length elements.now ≡ total descriptor.now }
@@ -33,6 +34,7 @@ pub(crate) fn scan(fold: Fold, elements: &[i64], descriptor: &[i64], out: &mut [
 }
 
 /// Writes the scan of each segment, which begins again at `start`.
+#[tactic(auto, using(crate::proofs::SegmentLemmas::total_more, crate::proofs::SegmentLemmas::flat_walk))]
 fn scan_segments<S: Combine>(elements: &[i64], descriptor: &[i64], start: i64, out: &mut [i64])
     requires lengths { AreLengths descriptor.now }
     requires whole { length elements.now ≡ total descriptor.now }
@@ -48,6 +50,7 @@ fn scan_segments<S: Combine>(elements: &[i64], descriptor: &[i64], start: i64, o
 }
 
 /// Writes the scan of one segment.
+#[tactic(auto, using(crate::proofs::FoldLemmas::scans))]
 fn scan_segment<S: Combine>(elements: &[i64], start: i64, out: &mut [i64])
     requires { length out.old ≡ length elements.now }
     ensures { out.new ≡ exclusive_scan S.combination start elements.now }

@@ -13,6 +13,7 @@ use vcode_base::DataFault;
 /// # Errors
 ///
 /// [`BadIndex`](DataFault::BadIndex) if an index is outside `out`. Then it holds no result.
+#[tactic(auto, using(crate::proofs::PlaceLemmas::scattered_over))]
 pub(crate) fn scatter(elements: &[i64], indices: &[i64], out: &mut [i64]) -> Result<bool, DataFault>
     requires same { length indices.now ≡ length elements.now }
     requires few { length indices.now ≤ MOST_TOTAL }
@@ -32,6 +33,7 @@ pub(crate) fn scatter(elements: &[i64], indices: &[i64], out: &mut [i64]) -> Res
 }
 
 /// Writes each element at its index; the other places of `out` stay as they are.
+#[tactic(auto, using(crate::proofs::PlaceLemmas::moves))]
 fn write_each(elements: &[i64], indices: &[i64], out: &mut [i64])
     requires same { length indices.now ≡ length elements.now }
     requires within { AreWithin (length out.old) indices.now }
@@ -69,6 +71,7 @@ fn claim(indices: &[i64], out: &mut [i64]) -> Result<(), DataFault>
 
 /// Writes each element over the number of its index, and says whether some index finds a later one's
 /// number, which is so if two of the indices are equal.
+#[tactic(auto, using(crate::proofs::PlaceLemmas::moves))]
 fn settle(elements: &[i64], indices: &[i64], out: &mut [i64]) -> bool
     requires same { length indices.now ≡ length elements.now }
     requires few { length indices.now ≤ MOST_TOTAL }

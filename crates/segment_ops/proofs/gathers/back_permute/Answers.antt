@@ -1,32 +1,15 @@
-use Rattle.std.proofs.Common.{◌≡◌, ◌+◌, ◌-◌, ◌<◌, ◌∙◌, ◌||◌, ap, length, map, arith, length-take, length-drop, ℤ}
-use Rattle.vcode_base.specs.Segments.{element}
-use Rattle.segment_ops.proofs.SegmentLemmas.{flat_more, lies_from}
-use Rattle.segment_ops.proofs.PieceLemmas.{pairs_more, outside_more, outside_from}
+use Rattle.std.proofs.Common.{◌<◌, ◌≤◌, length, arith, append_assoc, length-take, length-drop}
+use Rattle.std.proofs.lemmas.Slice.{take-put_mid}
+use Rattle.segment_ops.proofs.SegmentLemmas.{total_more, parts_more, outside_more}
 use Rattle.segment_ops.proofs.gathers.back_permute.Goals as goal
 
 pub loop-segment-preserved : goal.loop-segment-preserved
 loop-segment-preserved c =
-    let elements = c.args.elements.now in
-    let indices = c.args.indices.now in
-    let source = c.args.source.now in
-    let target = c.args.target.now in
-    let invariant = c.loop-segment.invariant in
-    let done = c.in_ok-gather.ensures in
-    let i = c.loop-segment.segment in
-    let b = c.loop-segment.target_begin in
-    let e = c.end_of-target_end.result in
-    let listed : i < length target = omega arith in
-    let part = lies_from c.loop-segment-test.true c.end_of-end.ensures invariant.left in
-    let target_part = lies_from listed c.end_of-target_end.ensures invariant.target_left in
-    let long : length c.gather.new.out ≡ e - b =
-    omega (arith, target_part.inside, c.gather.auto.out, length-take {A = ℤ}, length-drop {A = ℤ}) in
-    record {
-      left = part.left;
-      target_left = target_part.left;
-      inside = invariant.inside ∙ outside_more elements indices part target_part (omega arith)
-          ∙ ap (λ t. t || outside_from source target indices (i + 1) e) done.0;
-      written =
-          flat_more (λ (v, is). map (element v) is) _ _ _ c.loop-segment.out c.gather.new.out _ b _ e (omega arith)
-          (omega (arith, long, target_part.ends)) (pairs_more elements indices part target_part) done.1
-          invariant.written;
-    }
+    let here = c.loop-segment-test.true in
+    let there : c.loop-segment.segment < length c.args.target.now = omega arith in
+    let room : c.end_of-end.result ≤ length c.args.elements.now = grind (arith, total_more) in
+    let elements = parts_more c.args.source.now c.args.elements.now _ here c.end_of-end.ensures in
+    let indices = parts_more c.args.target.now c.args.indices.now _ there c.end_of-target_end.ensures in
+    let inside = outside_more _ _ c.args.elements.now c.args.indices.now _ _ here c.end_of-end.ensures room there
+    c.end_of-target_end.ensures in
+    grind (arith, append_assoc, take-put_mid, length-take, length-drop, total_more)

@@ -1,7 +1,6 @@
-use Rattle.std.proofs.Common.{◌≡◌, ◌+◌, ◌++◌, ◌||◌, false, length, take, drop}
-use Rattle.std.specs.List.{list_any}
-use Rattle.vcode_base.specs.Segments.{total, segments, sizes, any_outside, has_twice}
-use Rattle.segment_ops.proofs.PieceLemmas.{moved_between}
+use Rattle.std.proofs.Common.{◌≡◌, ◌+◌, ◌++◌, ◌||◌, false, length, take, drop, zip}
+use Rattle.std.specs.List.{list_any, flat_map}
+use Rattle.vcode_base.specs.Segments.{total, segments, sizes, any_outside, has_twice, scatter_of}
 use Rattle.segment_ops.proofs.overlays.overlay.Given as goal
 
 abbrev pub invariant-loop-segment : goal.invariant-loop-segment
@@ -13,8 +12,10 @@ invariant-loop-segment l = record {
   twice : list_any has_twice (segments l.source l.indices)
       ≡ (l.twice || list_any has_twice (segments (drop l.segment l.source) (drop l.begin l.indices)));
   kept : drop l.target_begin l.out ≡ drop l.target_begin l.fn.out;
-  written : l.twice ≡ false → moved_between l.source l.target l.elements l.indices l.fn.out
-      ≡ take l.target_begin l.out
-      ++ moved_between (drop l.segment l.source) (drop l.segment l.target) (drop l.begin l.elements)
-      (drop l.begin l.indices) (drop l.target_begin l.fn.out);
+  written : l.twice ≡ false → flat_map (λ (v, p). scatter_of v p.0 p.1)
+      (zip (segments l.source l.elements) (zip (segments l.source l.indices) (segments l.target l.fn.out)))
+      ≡ take l.target_begin l.out ++ flat_map (λ (v, p). scatter_of v p.0 p.1)
+      (zip (segments (drop l.segment l.source) (drop l.begin l.elements))
+      (zip (segments (drop l.segment l.source) (drop l.begin l.indices))
+      (segments (drop l.segment l.target) (drop l.target_begin l.fn.out))));
 }

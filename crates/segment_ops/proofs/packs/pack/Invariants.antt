@@ -7,8 +7,9 @@ use Rattle.segment_ops.proofs.packs.pack.Given as goal
 abbrev pub invariant-loop-segment : goal.invariant-loop-segment
 invariant-loop-segment l = record {
   left : l.begin + total (drop l.segment l.descriptor) ≡ length l.flags;
-  kept : l.kept ≡ count_by is_set (take l.begin l.flags);
-  packed : take l.kept l.out ≡ flagged_elements (take l.begin l.elements) (take l.begin l.flags);
+  room : l.kept + count_by is_set (drop l.begin l.flags) ≡ count_by is_set l.flags;
+  packed : flagged_elements l.elements l.flags
+      ≡ take l.kept l.out ++ flagged_elements (drop l.begin l.elements) (drop l.begin l.flags);
   counted : map (λ bs. pos (count_by is_set bs)) (segments l.descriptor l.flags)
       ≡ take l.segment l.counts ++ map (λ bs. pos (count_by is_set bs))
       (segments (drop l.segment l.descriptor) (drop l.begin l.flags));

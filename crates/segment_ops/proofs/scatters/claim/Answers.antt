@@ -1,58 +1,24 @@
-use Rattle.std.proofs.Common.{
-  ◌≡◌,
-  ◌<◌,
-  ◌∙◌,
-  ap,
-  sym,
-  pos,
-  false,
-  get_or,
-  length,
-  arith,
-  rules,
-  FitsSigned,
-  w64,
-  to_z,
-  of_z,
-}
-use Rattle.std.specs.List.{list_any}
+use Rattle.std.proofs.Common.{◌≡◌, ◌<◌, pos, get_or, length, arith, rules, FitsSigned, w64, below_more}
 use Rattle.std.proofs.lemmas.Int.{to_z-of_z, to_z_pos, ints}
-use Rattle.std.proofs.lemmas.List.{take_all}
-use Rattle.vcode_base.specs.Elements.{is_outside}
-use Rattle.vcode_base.specs.Segments.{names}
-use Rattle.segment_ops.specs.Indices.{some_outside, place_of}
-use Rattle.segment_ops.proofs.NameLemmas.{inside_by, inside_more}
-use Rattle.segment_ops.proofs.ClaimLemmas.{claim_more, beside_more}
-use Rattle.segment_ops.proofs.PieceLemmas.{place_within}
+use Rattle.segment_ops.specs.Indices.{place_of}
+use Rattle.segment_ops.proofs.PlaceLemmas.{claim_more, kept_all, kept_more, none_outside}
 use Rattle.segment_ops.proofs.scatters.claim.Goals as goal
 
 pub loop-place-preserved : goal.loop-place-preserved
 loop-place-preserved c =
     let indices = c.args.indices.now in
-    let out = c.loop-place.out in
     let k = c.loop-place.place in
-    let index = get_or indices k (pos 0) in
-    let n = length c.args.out.now in
-    let fits : FitsSigned w64 index = search rules in
-    let inside : is_outside n index ≡ false =
-    inside_by {z = to_z w64 n} {j = to_z w64 (of_z w64 index)} n index c.is_outside.ensures c.if-is_outside.false
-    (omega (arith, ints)) (omega (arith, ints)) in
-    let within = place_within n index inside in
-    let room : place_of indices k < length out = omega arith in
-    rw (to_z-of_z w64 index fits, to_z_pos w64 k (omega arith))
+    let fits : FitsSigned w64 (get_or indices k (pos 0)) = search rules in
+    let room : place_of indices k < length c.loop-place.out = grind (arith, ints, to_z-of_z) in
+    rw (to_z-of_z w64 (get_or indices k (pos 0)) fits, to_z_pos w64 k (omega arith))
     record {
-      inside = inside_more indices n k c.loop-place-test.true inside c.loop-place.invariant.inside;
-      claimed = claim_more indices out k room c.loop-place.invariant.claimed;
-      beside = beside_more indices c.args.out.now out k (pos k) c.loop-place-test.true c.loop-place.invariant.beside;
+      inside = below_more _ _ c.loop-place.invariant.inside (grind (arith, ints, to_z-of_z));
+      claimed = claim_more indices c.loop-place.out k room c.loop-place.invariant.claimed;
+      beside = kept_more indices c.args.out.now c.loop-place.out k (pos k) c.loop-place.invariant.beside;
     }
 
 pub returns : goal.returns
 returns c =
-    let indices = c.args.indices.now in
-    let all = take_all c.loop-place.place indices c.loop-place-test.false in (
-      ap (some_outside (length c.args.out.now)) (sym all) ∙ c.loop-place.invariant.inside,
-      λ j h. let claim = c.loop-place.invariant.claimed j (omega arith) in
-          let within : claim.0 < length indices = omega (arith, claim.2) in
-          (claim.0, claim.1, within, claim.3, claim.4),
-      λ q h none. c.loop-place.invariant.beside q h (ap (list_any (names q)) all ∙ none),
-    )
+    let all : c.loop-place.place ≡ length c.args.indices.now = omega arith in
+    let done = rw all at c.loop-place.invariant in
+    (none_outside _ _ done.inside, done.claimed, kept_all _ _ _ done.beside)
