@@ -1,6 +1,6 @@
 -- What closes the open IFs of a draft, as its lines grow.
-use Rattle.std.proofs.Common.{◌≡◌, ℕ, Bool, true, false, List, [], ◌∷◌, ◌++◌, Some, refl, ap, ◌∙◌, sym}
-use Rattle.std.proofs.Common.{subst, append_assoc}
+use Rattle.std.proofs.Common.{arith, ◌≡◌, ℕ, Bool, true, false, List, [], ◌∷◌, ◌++◌, Some, refl, ap, append_assoc}
+use Rattle.std.proofs.lemmas.Bool.Decides.{nat_tests}
 use Rattle.std.proofs.lemmas.List.{append-nil}
 use Rattle.std.proofs.lemmas.Bool.{not-true}
 use Rattle.std.proofs.lemmas.Option.{same_Some}
@@ -31,26 +31,18 @@ endings_choice : (ifs : List OpenIf) (l : ℕ) (x y : Body) (e : ℕ) (b : Body)
     ≡ line_of code_item.If l
     ∷ (body_lines x ++ (line_of code_item.Else l ∷ (body_lines y ++ (line_of code_item.Endif e ∷ endings ifs b cs))))
 endings_choice [] l x y e b cs = refl
-endings_choice (o ∷ os) l x y e b cs =
-    regroup (body_lines x) (body_lines y) (body_lines b) _ (line_of code_item.If l) (line_of code_item.Else l)
-    (line_of code_item.Endif e)
+endings_choice (o ∷ os) l x y e b cs = grind (arith, nat_tests, regroup)
 
 -- one line more, and what closes the draft then
 pub item_endings : (ifs : List OpenIf) (lines : List CodeLine) (i : Item) (l : ℕ) (b : Body) (cs : List Closing) →
     (lines ++ instruction_line i l ∷ []) ++ endings ifs b cs ≡ lines ++ endings ifs (Do i l b) cs
-item_endings ifs lines i l b cs =
-    append_assoc lines (instruction_line i l ∷ []) (endings ifs b cs)
-    ∙ ap (λ z. lines ++ z) (sym (endings_do ifs i l b cs))
+item_endings ifs lines i l b cs = grind (arith, nat_tests, append_assoc, endings_do)
 
 pub if_endings : (ifs : List OpenIf) (lines : List CodeLine) (l : ℕ) (b : Body) (cs : List Closing) →
     (lines ++ line_of code_item.If l ∷ []) ++ endings (open_if l false ∷ ifs) b cs
     ≡ lines ++ endings ifs (Choice l b (first_closing cs).second (first_closing cs).end (first_closing cs).after)
     (other_closings cs)
-if_endings ifs lines l b cs =
-    append_assoc lines (line_of code_item.If l ∷ []) (endings (open_if l false ∷ ifs) b cs)
-    ∙ ap (λ z. lines ++ z)
-    (sym (endings_choice ifs l b (first_closing cs).second (first_closing cs).end (first_closing cs).after
-    (other_closings cs)))
+if_endings ifs lines l b cs = grind (arith, nat_tests, append_assoc, endings_choice)
 
 pub else_endings : (is : List OpenIf) (lines : List CodeLine) (l : ℕ) (b : Body) (cs : List Closing) →
     (lines ++ line_of code_item.Else l ∷ []) ++ endings (open_if l true ∷ is) b cs
@@ -66,9 +58,7 @@ endif_endings is lines l e b cs = append_assoc lines (line_of code_item.Endif e 
 pub alone_endings : (is : List OpenIf) (lines : List CodeLine) (l e : ℕ) (b : Body) (cs : List Closing) →
     ((lines ++ line_of code_item.Else l ∷ []) ++ line_of code_item.Endif e ∷ []) ++ endings is b cs
     ≡ lines ++ endings (open_if l false ∷ is) End (closing End e b ∷ cs)
-alone_endings is lines l e b cs =
-    append_assoc (lines ++ line_of code_item.Else l ∷ []) (line_of code_item.Endif e ∷ []) (endings is b cs)
-    ∙ append_assoc lines (line_of code_item.Else l ∷ []) (line_of code_item.Endif e ∷ endings is b cs)
+alone_endings is lines l e b cs = grind (arith, nat_tests, append_assoc)
 
 -- ---- drafts
 
@@ -77,72 +67,54 @@ no_draft = record { closes = λ b cs. ap body_lines (tree_of-body_lines b) }
 
 pub item_draft : (ifs : List OpenIf) (lines : List CodeLine) (i : Item) (l : ℕ) → IsDraft ifs lines →
     IsDraft ifs (lines ++ instruction_line i l ∷ [])
-item_draft ifs lines i l h = record {
-  closes = λ b cs. subst AreBodyLines (sym (item_endings ifs lines i l b cs)) (h.closes (Do i l b) cs);
-}
+item_draft ifs lines i l h = grind (arith, nat_tests, item_endings)
 
 pub if_draft : (ifs : List OpenIf) (lines : List CodeLine) (l : ℕ) → IsDraft ifs lines →
     IsDraft (open_if l false ∷ ifs) (lines ++ line_of code_item.If l ∷ [])
-if_draft ifs lines l h = record {
-  closes = λ b cs.
-      let c = first_closing cs in
-      subst AreBodyLines (sym (if_endings ifs lines l b cs))
-      (h.closes (Choice l b c.second c.end c.after) (other_closings cs));
-}
+if_draft ifs lines l h = grind (arith, nat_tests, if_endings)
 
 open_else : (is : List OpenIf) (lines : List CodeLine) (l : ℕ) → IsDraft (open_if l false ∷ is) lines →
     IsDraft (open_if l true ∷ is) (lines ++ line_of code_item.Else l ∷ [])
 open_else is lines l h = record {
   closes = λ b cs.
       let c = first_closing cs in
-      subst AreBodyLines (sym (else_endings is lines l b cs))
-      (h.closes End (closing b c.end c.after ∷ other_closings cs));
+      rw (else_endings is lines l b cs) (h.closes End (closing b c.end c.after ∷ other_closings cs));
 }
 
 pub else_draft : (ifs : List OpenIf) (lines : List CodeLine) (i : OpenIf) → Some i ≡ first_of ifs →
     takes_else ifs ≡ true → IsDraft ifs lines →
     IsDraft (open_if i.line true ∷ others_of ifs) (lines ++ line_of code_item.Else i.line ∷ [])
-else_draft [] lines i e t h = cc
-else_draft (j ∷ is) lines i e t h =
-    let same : i ≡ j = same_Some i j e in
-    subst (λ (k : OpenIf). IsDraft (open_if k.line true ∷ is) (lines ++ line_of code_item.Else k.line ∷ []))
-    (sym same)
-    (open_else is lines j.line (subst (λ z. IsDraft (open_if j.line z ∷ is) lines) (not-true j.has_else t) h))
+else_draft ifs lines i e t h = grind (arith, nat_tests, same_Some, open_else, not-true)
 
 open_endif : (e : ℕ) (is : List OpenIf) (lines : List CodeLine) (t : Bool) (l : ℕ) →
     IsDraft (open_if l t ∷ is) lines →
     IsDraft is (lines_after_endif (open_if l t) e lines)
 open_endif e is lines true l h = record {
-  closes = λ b cs. subst AreBodyLines (sym (endif_endings is lines l e b cs)) (h.closes End (closing End e b ∷ cs));
+  closes = λ b cs. rw (endif_endings is lines l e b cs) (h.closes End (closing End e b ∷ cs));
 }
 open_endif e is lines false l h = record {
-  closes = λ b cs. subst AreBodyLines (sym (alone_endings is lines l e b cs)) (h.closes End (closing End e b ∷ cs));
+  closes = λ b cs. rw (alone_endings is lines l e b cs) (h.closes End (closing End e b ∷ cs));
 }
 
 pub endif_draft : (e : ℕ) (ifs : List OpenIf) (lines : List CodeLine) (i : OpenIf) → Some i ≡ first_of ifs →
     IsDraft ifs lines → IsDraft (others_of ifs) (lines_after_endif i e lines)
 endif_draft e [] lines i f h = cc
-endif_draft e (j ∷ is) lines i f h =
-    let same : i ≡ j = same_Some i j f in
-    subst (λ (k : OpenIf). IsDraft is (lines_after_endif k e lines)) (sym same)
-    (open_endif e is lines j.has_else j.line h)
+endif_draft e (j ∷ is) lines i f h = grind (arith, open_endif e is lines j.has_else j.line h)
 
 -- the same lines and open IFs, in other words
 pub draft_at : (lines after : List CodeLine) (ifs is : List OpenIf) → lines ≡ after → ifs ≡ is → IsDraft is after →
     IsDraft ifs lines
-draft_at lines after ifs is e f h = subst (λ z. IsDraft z lines) (sym f) (subst (IsDraft is) (sym e) h)
+draft_at lines after ifs is e f h = grind arith
 
 pub empty_draft : (lines : List CodeLine) (ifs : List OpenIf) → lines ≡ [] → ifs ≡ [] → IsDraft ifs lines
-empty_draft lines ifs e f = draft_at lines [] ifs [] e f no_draft
+empty_draft lines ifs e f = grind (arith, tree_of-body_lines)
 
 -- a draft without open IFs is a body
 pub whole_draft : (ifs : List OpenIf) (lines : List CodeLine) → is_open ifs ≡ false → IsDraft ifs lines →
     AreBodyLines lines
-whole_draft [] lines o h = subst AreBodyLines (append-nil lines) (h.closes End [])
-whole_draft (i ∷ is) lines o h = cc
+whole_draft ifs lines o h = grind (arith, append-nil, h.closes End [])
 
 -- the lines of a function: those of a body, and a RET after them
 pub whole_function : (name : List ℕ) (line ret : ℕ) (xs lines : List CodeLine) →
     lines ≡ xs ++ instruction_line Return ret ∷ [] → AreBodyLines xs → AreLines name line lines
-whole_function name line ret xs lines all body =
-    subst (AreLines name line) (sym all) (AreLines-then name line xs ret body)
+whole_function name line ret xs lines all body = grind (arith, AreLines-then name line xs ret body)

@@ -1,15 +1,11 @@
--- What fits after a word, or after more of a text, fits before it.
-use Rattle.std.proofs.Common.{◌≡◌, ℕ, ℤ, Bool, true, false, List, [], ◌∷◌, ◌++◌, Option, Some, None, Result, Ok}
-use Rattle.std.proofs.Common.{Err, refl}
-use Rattle.std.proofs.Common.{◌≤◌, ◌⊎◌, arith, codes, inl, inr, is_some, length, subst}
-use Rattle.std.specs.Prelude.{if◌then◌else◌, nat_lt}
-use Rattle.std.specs.Str.{bytes_eq}
-use Rattle.vcode_base.specs.declared.instr.Instr.TheVariants.{Return}
-use Rattle.vcode_base.specs.declared.limits.TheConstants.{LONGEST_NAME, MOST_ELEMENTS, MOST_FUNCTIONS, MOST_OPEN_IFS}
+-- What fits 32 bits: lines that are added to others, and what fits after a word or after more of a text.
+use Rattle.std.proofs.lemmas.Grind.{common_steps}
+use Rattle.std.proofs.Common.{rules, ◌≡◌, ℕ, Bool, true, false, List, [], ◌∷◌, ◌++◌, Option, refl, ◌≤◌, ◌⊎◌, arith}
+use Rattle.std.proofs.Common.{length, subst, ℤ, ◌+◌, ◌^◌, ◌<◌, sym, Some, length-append}
+use Rattle.std.proofs.lemmas.Bool.Decides.{nat_tests}
+use Rattle.std.specs.Prelude.{if◌then◌else◌}
 use Rattle.vcode_reader.specs.declared.class.Class.{Class}
-use Rattle.vcode_reader.specs.declared.class.Class.TheVariants.{LineFeed, Blank, OpenBrace, CloseBrace, Parenthesis}
-use Rattle.vcode_reader.specs.declared.class.Class.TheVariants.{Plain, Refused}
-use Rattle.vcode_reader.specs.declared.fault.CodeFault.{CodeFault}
+use Rattle.vcode_reader.specs.declared.class.Class.TheVariants.{CloseBrace, Parenthesis, Refused}
 use Rattle.vcode_reader.specs.declared.head.Head.{Head}
 use Rattle.vcode_reader.specs.declared.head.Head.TheVariants as head
 use Rattle.vcode_reader.specs.declared.keyword.Keyword.{Keyword}
@@ -18,18 +14,115 @@ use Rattle.vcode_reader.specs.declared.place.OpenIf.{OpenIf}
 use Rattle.vcode_reader.specs.declared.place.Place.{Place}
 use Rattle.vcode_reader.specs.declared.place.Place.TheVariants.{Outside, Name, Inside, InsideOrInt, Words, Elements}
 use Rattle.vcode_reader.specs.Classes.{class_of}
-use Rattle.vcode_reader.specs.Drafts.{DraftState, else_in, endif_in, is_open, takes_else, with_if, with_item}
+use Rattle.vcode_reader.specs.Drafts.{DraftState, else_in, endif_in, is_open, takes_else, with_if, IsDraft}
+use Rattle.vcode_reader.specs.Drafts.{lines_after_endif}
 use Rattle.vcode_reader.specs.Heads.{head_of, slots_of}
-use Rattle.vcode_reader.specs.Keywords.{ItemParts}
-use Rattle.vcode_reader.specs.Numbers.{value_of}
-use Rattle.vcode_reader.specs.Parsing.{Parse, after_name, after_part, after_return, after_slot, at_place, begins_list}
-use Rattle.vcode_reader.specs.Parsing.{has_name, in_list, in_slot, inside, is_no_name, one_element, outside}
-use Rattle.vcode_reader.specs.Parsing.{take, word_in}
-use Rattle.vcode_reader.specs.Room.{FitsDraft, FitsParse, FitsPools, FitsText, FunctionsFit}
+use Rattle.vcode_reader.specs.Parsing.{Parse, after_name, after_return, after_slot, at_place, in_list, in_slot, inside}
+use Rattle.vcode_reader.specs.Parsing.{outside, take}
+use Rattle.vcode_reader.specs.Room.{FitsDraft, FitsParse, FitsPools, FitsText, FunctionsFit, AreNear, AreTogether}
 use Rattle.vcode_reader.specs.Scan.{Scan, by_comment, end_word, ends_word, in_text, lone_word, scan_all, scan_byte}
-use Rattle.vcode_reader.specs.Trees.{CodeLine, Function, Item, instruction_line, lines_of}
-use Rattle.vcode_reader.proofs.Drafting.{else_draft, endif_draft, if_draft, item_draft, whole_draft}
-use Rattle.vcode_reader.proofs.Rooms.{front_fits, function_lines}
+use Rattle.vcode_reader.specs.Trees.{CodeLine, Function, lines_of, body_lines, instruction_line, line_of}
+use Rattle.vcode_reader.proofs.Drafting.{else_draft, endif_draft, if_draft, item_draft, whole_draft, draft_at}
+use Rattle.vcode_reader.proofs.Drafting.{empty_draft}
+use Rattle.vcode_reader.proofs.Pooling.{same_pooled, pushed_shown, length-lists_more, length-names_more, shown_length}
+use Rattle.std.proofs.Math.Nat.{min-eq_left}
+use Rattle.std.proofs.lemmas.Option.{same_Some}
+use Rattle.vcode_base.specs.declared.instr.Instr.TheVariants.{Return}
+use Rattle.vcode_reader.specs.declared.line.CodeItem.TheVariants as code_item
+use Rattle.vcode_reader.specs.Decode.{AreBodyLines, tree_of}
+use Rattle.vcode_reader.specs.Pools.{ArePooled, PooledLine, all_lists, all_names, first_with, least_number, least_with}
+use Rattle.vcode_reader.specs.Pools.{list_of, name_of, shown_lines}
+use Rattle.vcode_reader.specs.Targets.{first_of}
+
+-- ---- the first of some lines
+
+near_front : (n : ℕ) (xs ys : List CodeLine) → AreNear n (xs ++ ys) → AreNear n xs
+near_front n [] ys h = tt
+near_front n (x ∷ xs) ys h = (h.0, h.1, near_front n xs ys h.2)
+
+lists_of_front : (xs ys : List CodeLine) → length (all_lists xs) ≤ length (all_lists (xs ++ ys))
+unfolding all_lists
+lists_of_front [] ys = omega arith
+lists_of_front (x ∷ xs) ys = grind (arith, length-append, lists_of_front xs ys)
+
+names_of_front : (xs ys : List CodeLine) → length (all_names xs) ≤ length (all_names (xs ++ ys))
+unfolding all_names
+names_of_front [] ys = omega arith
+names_of_front (x ∷ xs) ys = grind (arith, length-append, names_of_front xs ys)
+
+-- what suffices for lines suffices for the first of them
+pub front_fits : (xs ys : List CodeLine) → FitsPools (xs ++ ys) → FitsPools xs
+front_fits xs ys h = grind (arith, nat_tests, length-append, lists_of_front, names_of_front, near_front)
+
+-- ---- one line more
+
+near_last : (n : ℕ) (xs : List CodeLine) (x : CodeLine) → AreNear n (xs ++ x ∷ []) →
+    (n ≤ x.number) × (x.number < n + 2 ^ 32)
+near_last n [] x h = (h.0, h.1)
+near_last n (y ∷ ys) x h = near_last n ys x h.2
+
+least_of_near : (n : ℕ) (xs : List CodeLine) → AreNear n xs → least_with n xs ≡ n
+unfolding least_with
+least_of_near n [] h = refl
+least_of_near n (x ∷ xs) h = grind (arith, nat_tests, min-eq_left, least_of_near n xs h.2)
+
+-- the number of a line that is added is near that of the first
+near_first : (xs : List CodeLine) (x : CodeLine) (first : ℕ) → first ≡ least_number xs → AreTogether (xs ++ x ∷ []) →
+    (first_with first (length xs) x.number ≤ x.number) × (x.number < first_with first (length xs) x.number + 2 ^ 32)
+unfolding least_number
+near_first [] x first e h = (omega arith, omega arith)
+near_first (y ∷ ys) x first e h =
+    grind (arith, near_last y.number ys x h, least_of_near y.number ys (near_front y.number ys (x ∷ []) h))
+
+-- what has to be known of a line that is added to pools
+pub record AddsLine (first number lists names : ℕ) (more : List ℤ) (bytes : List ℕ) : Type 0 where
+  pub after : first ≤ number
+  pub near : number < first + 2 ^ 32
+  pub list : lists + length more < 2 ^ 32
+  pub name : names + length bytes < 2 ^ 32
+
+pub adds_line : (first first2 : ℕ) (ps : List PooledLine) (ls : List ℤ) (ns : List ℕ) (len : ℕ) (x : CodeLine) →
+    ArePooled first ps ls ns → len ≡ length ps → first2 ≡ first_with first len x.number →
+    FitsPools (shown_lines first ls ns ps ++ x ∷ []) →
+    AddsLine first2 x.number (length ls) (length ns) (list_of x.item) (name_of x.item)
+adds_line first first2 ps ls ns len x held long begin fits =
+    grind (arith, common_steps, shown_length, near_first, length-lists_more, length-names_more)
+
+-- ---- drafts
+
+pub else_fits : (ifs : List OpenIf) (lines : List CodeLine) (i : OpenIf) → Some i ≡ first_of ifs →
+    takes_else ifs ≡ true → IsDraft ifs lines → FitsDraft (else_in ifs lines) →
+    FitsPools (lines ++ line_of code_item.Else i.line ∷ [])
+else_fits [] lines i e t h fits = cc
+else_fits (j ∷ is) lines i e t h fits =
+    subst (λ (k : OpenIf). FitsPools (lines ++ line_of code_item.Else k.line ∷ [])) (sym (same_Some i j e))
+    (fits (else_draft (j ∷ is) lines j refl t h))
+
+pub endif_fits : (e : ℕ) (ifs : List OpenIf) (lines : List CodeLine) (i : OpenIf) → Some i ≡ first_of ifs →
+    IsDraft ifs lines → FitsDraft (endif_in e ifs lines) → FitsPools (lines_after_endif i e lines)
+endif_fits e [] lines i f h fits = cc
+endif_fits e (j ∷ is) lines i f h fits =
+    subst (λ (k : OpenIf). FitsPools (lines_after_endif k e lines)) (sym (same_Some i j f))
+    (fits (endif_draft e (j ∷ is) lines j refl h))
+
+-- the ELSE that an ENDIF adds
+pub added_else : (i : OpenIf) (e : ℕ) (lines : List CodeLine) → i.has_else ≡ false →
+    FitsPools (lines_after_endif i e lines) → FitsPools (lines ++ line_of code_item.Else i.line ∷ [])
+added_else i e lines none h = grind (arith, nat_tests, front_fits)
+
+-- the lines of a draft without open IFs, and a RET after them
+pub function_lines : (ret : ℕ) (lines xs : List CodeLine) → xs ≡ lines → AreBodyLines xs →
+    FitsPools (body_lines (tree_of lines) ++ instruction_line Return ret ∷ []) →
+    FitsPools (xs ++ instruction_line Return ret ∷ [])
+function_lines ret lines xs e body h = grind (arith, nat_tests)
+
+-- a draft with more lines
+pub ruleset draft_steps = (draft_at, empty_draft, if_draft, else_draft, endif_draft, else_fits, endif_fits)
+
+-- pools with one line more
+pub ruleset push_steps = (same_pooled, adds_line, pushed_shown)
+
+-- ---- what fits after a word, or after more of a text, fits before it
 
 functions_front : (fs gs : List Function) → FunctionsFit (fs ++ gs) → FunctionsFit fs
 functions_front [] gs h = tt
@@ -45,12 +138,8 @@ last_fits fs f h = functions_last fs f h
 
 -- ---- drafts
 
-item_before : (d : DraftState) (i : Item) (l : ℕ) → FitsDraft (with_item i l d) → FitsDraft d
-item_before d i l h = λ draft.
-    front_fits d.lines (instruction_line i l ∷ []) (h (item_draft d.ifs d.lines i l draft))
-
 if_before : (d : DraftState) (l : ℕ) → FitsDraft (with_if l d) → FitsDraft d
-if_before d l h = λ draft. front_fits d.lines _ (h (if_draft d.ifs d.lines l draft))
+if_before d l h = grind (arith, front_fits, if_draft)
 
 else_before : (ifs : List OpenIf) (lines : List CodeLine) → takes_else ifs ≡ true → FitsDraft (else_in ifs lines) →
     FitsDraft (record { lines = lines; ifs = ifs })
@@ -81,93 +170,50 @@ either false p q r f g h = g refl h
 
 slot_before : (k : Keyword) (begun : ℕ) (slots : List WordSlot) (p : Parse) → Fits (after_slot k begun slots p) →
     Fits p
-slot_before k begun [] p h = (h.0, item_before p.draft _ begun h.1)
-slot_before k begun (s ∷ slots) p h = (h.0, h.1)
-
-part_before : (r : Result ItemParts CodeFault) (k : Keyword) (begun l : ℕ) (p : Parse) →
-    Fits (after_part r k begun l p) → Fits p
-part_before (Ok parts) k begun l p h =
-    slot_before k begun p.slots (record p { parts = parts }) h
-part_before (Err r) k begun l p h = h
+slot_before k begun slots p h = grind (arith, nat_tests, front_fits, item_draft)
 
 in_slot_before : (s : WordSlot) (k : Keyword) (begun : ℕ) (t : List ℕ) (l : ℕ) (p : Parse) →
     Fits (in_slot s k begun t l p) → Fits p
-in_slot_before s k begun t l p h =
-    either (begins_list s t) p _ _ (λ _ q. q)
-    (λ _ q. part_before (word_in s t p.parts) k begun l p q) h
-
-element_before : (o : Option ℤ) (t : List ℕ) (l : ℕ) (p : Parse) → Fits (one_element o t l p) → Fits p
-element_before None t l p h = h
-element_before (Some n) t l p h =
-    either (nat_lt (length p.parts.numbers) MOST_ELEMENTS) p _ _ (λ _ q. q) (λ _ q. q) h
+in_slot_before s k begun t l p h = grind (arith, nat_tests, front_fits, item_draft)
 
 in_list_before : (k : Keyword) (begun : ℕ) (t : List ℕ) (l : ℕ) (p : Parse) → Fits (in_list k begun t l p) →
     Fits p
-in_list_before k begun t l p h =
-    either (bytes_eq t (codes ")")) p _ _ (λ _ q. slot_before k begun p.slots p q)
-    (λ _ q. element_before (value_of p.parts.kind t) t l p q) h
+in_list_before k begun t l p h = grind (arith, slot_before)
 
 outside_before : (x : Head) (l : ℕ) (p : Parse) → Fits (outside x l p) → Fits p
-outside_before head.Func l p h =
-    either (nat_lt (length p.functions) MOST_FUNCTIONS) p _ _ (λ _ q. q) (λ _ q. q) h
-outside_before _ l p h = h
+outside_before x l p h = grind (arith, nat_tests)
 
 name_before : (t : List ℕ) (l : ℕ) (p : Parse) → Fits (after_name t l p) → Fits p
-name_before t l p h =
-    either (is_no_name t) p _ _ (λ _ q. q)
-    (λ _ q. either (nat_lt LONGEST_NAME (length t)) p _ _ (λ _ r. r)
-    (λ _ r. either (has_name t p.functions) p _ _ (λ _ u. u) (λ _ u. u) r) q) h
+name_before t l p h = search (rules)
 
 return_before : (l : ℕ) (p : Parse) → is_open p.draft.ifs ≡ false → Fits (after_return l p) → Fits p
-return_before l p closed h = (
-  functions_front p.functions _ h.0,
-  λ draft.
-      let body = whole_draft p.draft.ifs p.draft.lines closed draft in
-      front_fits p.draft.lines (instruction_line Return l ∷ [])
-      (function_lines l p.draft.lines p.draft.lines refl body (functions_last p.functions _ h.0)),
-)
+return_before l p closed h =
+    grind (arith, nat_tests, functions_front, whole_draft, front_fits, function_lines, functions_last)
 
 inside_before : (x : Head) (slots : List WordSlot) (l : ℕ) (p : Parse) → Fits (inside x slots l p) → Fits p
-inside_before head.Return slots l p h =
-    either (is_open p.draft.ifs) p _ _ (λ _ q. q) (λ closed q. return_before l p closed q) h
-inside_before head.If slots l p h =
-    either (nat_lt (length p.draft.ifs) MOST_OPEN_IFS) p _ _
-    (λ _ q. (q.0, if_before p.draft l q.1)) (λ _ q. q) h
-inside_before head.Else slots l p h =
-    either (takes_else p.draft.ifs) p _ _
-    (λ t q. (q.0, else_before p.draft.ifs p.draft.lines t q.1)) (λ _ q. q) h
-inside_before head.Endif slots l p h =
-    either (is_open p.draft.ifs) p _ _
-    (λ _ q. (q.0, endif_before l p.draft.ifs p.draft.lines q.1)) (λ _ q. q) h
+inside_before head.Return slots l p h = grind (arith, nat_tests, either, return_before)
+inside_before head.If slots l p h = grind (arith, nat_tests, either, if_before)
+inside_before head.Else slots l p h = grind (arith, nat_tests, either, else_before)
+inside_before head.Endif slots l p h = grind (arith, nat_tests, either, endif_before)
 inside_before (head.Start k) slots l p h = slot_before k l slots p h
 inside_before _ slots l p h = h
 
 place_before : (x : Place) (t : List ℕ) (l : ℕ) (p : Parse) → Fits (at_place x t l p) → Fits p
 place_before Outside t l p h = outside_before (head_of t) l p h
 place_before Name t l p h = name_before t l p h
-place_before Inside t l p h = inside_before (head_of t) (slots_of t) l p h
-place_before InsideOrInt t l p h =
-    either (bytes_eq t (codes "INT")) p _ _ (λ _ q. q)
-    (λ _ q. inside_before (head_of t) (slots_of t) l p q) h
+place_before InsideOrInt t l p h = grind (arith, inside_before (head_of t) (slots_of t) l p)
 place_before (Words k s begun) t l p h = in_slot_before s k begun t l p h
 place_before (Elements k begun opened) t l p h = in_list_before k begun t l p h
+place_before Inside t l p h = inside_before (head_of t) (slots_of t) l p h
 
 pub word_before : (t : List ℕ) (l : ℕ) (p : Parse) → FitsParse (take t l p) → FitsParse p
 unfolding take
-word_before t l p h =
-    let fits : Fits p =
-    either (is_some p.fault) p _ _ (λ _ q. q) (λ _ q. place_before p.place t l p q) (h.functions, h.draft) in
-    record { functions = fits.0; draft = fits.1 }
+word_before t l p h = grind (arith, place_before)
 
 -- ---- bytes
 
 ends_before : (t : List ℕ) (s : Scan Parse) → FitsParse (ends_word take t s).found → FitsParse s.found
-ends_before [] s h = h
-ends_before (b ∷ t) s h = word_before (b ∷ t) s.line s.found h
-
-pub end_before : (s : Scan Parse) → FitsParse (end_word take s).found → FitsParse s.found
-unfolding end_word
-end_before s h = ends_before s.word s h
+ends_before t s h = grind (arith, common_steps, word_before)
 
 -- a byte that is a word by itself comes after the end of the open word
 pub lone_before : (b : ℕ) (s : Scan Parse) → FitsParse (lone_word take b s).found → FitsParse s.found
@@ -176,13 +222,8 @@ lone_before b s h = word_before (b ∷ []) s.line s.found h
 
 byte_before : (o : Option ℕ) (c : Class) (b : ℕ) (s : Scan Parse) → FitsParse (by_comment take o c b s).found →
     FitsParse s.found
-byte_before None LineFeed b s h = end_before s h
-byte_before None Blank b s h = end_before s h
-byte_before None OpenBrace b s h = end_before s h
-byte_before None Plain b s h = h
-byte_before None _ b s h = end_before s (lone_before b (end_word take s) h)
-byte_before (Some l) Plain b s h = h
-byte_before (Some l) _ b s h = h
+unfolding end_word lone_word
+byte_before o c b s h = grind (arith, nat_tests, ends_before, word_before)
 
 bytes_before : (bs : List ℕ) (s : Scan Parse) → FitsParse (scan_all take s bs).found → FitsParse s.found
 unfolding scan_all scan_byte
@@ -191,34 +232,29 @@ bytes_before (b ∷ bs) s h = byte_before s.comment (class_of b) b s (bytes_befo
 
 -- what is read so far fits, if it does after more of the text
 pub text_before : (s : Scan Parse) (text : List ℕ) → FitsText s text → FitsParse s.found
-text_before s text h = bytes_before text s (end_before (scan_all take s text) h)
+unfolding end_word
+text_before s text h = grind (arith, nat_tests, bytes_before, word_before)
 
 -- what fits after a text fits after the rest, from what the front made
 pub rest_fits : (s n : Scan Parse) (all rest : List ℕ) → scan_all take s all ≡ scan_all take n rest → FitsText s all →
     FitsText n rest
-rest_fits s n all rest e h = subst (λ (x : Scan Parse). FitsParse (end_word take x).found) e h
+rest_fits s n all rest e h = grind (arith)
 
 -- what the front made fits
 pub front_read : (s n : Scan Parse) (all rest : List ℕ) → scan_all take s all ≡ scan_all take n rest → FitsText s all →
     FitsParse n.found
-front_read s n all rest e h = text_before n rest (rest_fits s n all rest e h)
+front_read s n all rest e h = grind (arith, text_before)
 
 pub first_byte_fits : (s : Scan Parse) (b : ℕ) (rest all : List ℕ) → all ≡ b ∷ rest → FitsText s all →
     FitsParse (scan_byte take s b).found
 unfolding scan_all
-first_byte_fits s b rest all e h =
-    text_before (scan_byte take s b) rest (subst (λ (bytes : List ℕ). FitsText s bytes) e h)
-
-word_fits : (t : List ℕ) (s : Scan Parse) → 1 ≤ length t → FitsParse (ends_word take t s).found →
-    FitsParse (take t s.line s.found)
-word_fits [] s some h = absurd (omega (arith, some))
-word_fits (b ∷ t) s some h = h
+first_byte_fits s b rest all e h = grind (arith, nat_tests, text_before)
 
 -- an open word that ends
 pub open_word_fits : (s : Scan Parse) → 1 ≤ length s.word → FitsParse (end_word take s).found →
     FitsParse (take s.word s.line s.found)
 unfolding end_word
-open_word_fits s some h = word_fits s.word s some h
+open_word_fits s some h = grind (arith, nat_tests)
 
 -- a byte that is a word by itself ends the open word
 abbrev pub IsLone : Class → Type 0
@@ -226,6 +262,7 @@ IsLone c = (c ≡ CloseBrace) ⊎ ((c ≡ Parenthesis) ⊎ (c ≡ Refused))
 
 pub lone_is_read : (c : Class) → IsLone c → (b : ℕ) (s : Scan Parse) → FitsParse (in_text take c b s).found →
     FitsParse (lone_word take b (end_word take s)).found
-lone_is_read c (inl e) b s h = subst (λ (k : Class). FitsParse (in_text take k b s).found) e h
-lone_is_read c (inr (inl e)) b s h = subst (λ (k : Class). FitsParse (in_text take k b s).found) e h
-lone_is_read c (inr (inr e)) b s h = subst (λ (k : Class). FitsParse (in_text take k b s).found) e h
+lone_is_read c lone b s h = grind (arith, nat_tests)
+
+-- a byte that is a word by itself is read
+pub ruleset lone_steps = (common_steps, lone_before, lone_is_read)

@@ -1,11 +1,11 @@
 -- Programs are equal if their parts are.
-use Rattle.std.proofs.Common.{◌≡◌, ◌∙◌, ℕ, List, Option, Some, None, Bool, ◌&&◌, refl, ap, sym}
+use Rattle.std.proofs.Common.{arith, ◌≡◌, ◌∙◌, ℕ, List, Option, Bool, ◌&&◌, refl, ap, sym}
+use Rattle.std.proofs.lemmas.Bool.Decides.{nat_tests, Decides-and, Decides-like, Decides-eqb, Decides-int_eq}
 use Rattle.std.specs.Bool.{Decides}
 use Rattle.std.specs.Cmp.Lexicographic.{pointwise}
 use Rattle.std.specs.Option.{option_eq}
 use Rattle.std.specs.Ordering.{int_eq}
 use Rattle.std.specs.Prelude.{nat_eq}
-use Rattle.std.proofs.lemmas.Bool.Decides.{Decides-and, Decides-like, Decides-eqb, Decides-int_eq}
 use Rattle.std.proofs.lemmas.Slice.Eq.{slice_eq-Decides}
 use Rattle.vcode_reader.specs.declared.code_lines.Span.{Span}
 use Rattle.vcode_reader.specs.Pools.{PooledItem, PooledLine, least_number, linked_lines, shown_lines, all_lists}
@@ -16,27 +16,19 @@ use Rattle.vcode_reader.specs.Decode.{function_of, function_of-lines_of}
 use Rattle.vcode_reader.proofs.Linking.{linked_again}
 
 pub same_targets : (s t : Option ℕ) → Decides (option_eq nat_eq s t) (s ≡ t)
-same_targets None None = (λ h. refl, λ h. refl)
-same_targets None (Some t) = (λ h. cc, λ h. cc)
-same_targets (Some s) None = (λ h. cc, λ h. cc)
-same_targets (Some s) (Some t) = Decides-like _ (λ h. ap (λ z. Some z) h) (λ h. cc) (Decides-eqb s t)
+same_targets s t = grind (arith, nat_tests)
 
 abbrev pub same_span : Span → Span → Bool
 same_span s t = nat_eq s.start t.start && nat_eq s.len t.len
 
 pub same_spans : (s t : Span) → Decides (same_span s t) (s ≡ t)
-same_spans s t =
-    Decides-like _ (λ (e, f). λ i. record { start = e i; len = f i }) (λ e. (λ i. (e i).start, λ i. (e i).len))
-    (Decides-and _ _ (Decides-eqb s.start t.start) (Decides-eqb s.len t.len))
+same_spans s t = grind (arith, nat_tests)
 
 -- lines are equal if their pooled lines and the pools are
 module _ {F : PooledItem → PooledItem → Bool}
     (exact : (i j : PooledItem) → Decides (F i j) (i ≡ j)) where
   same_line : (a b : PooledLine) → Decides (F a.item b.item && nat_eq a.distance b.distance) (a ≡ b)
-  same_line a b =
-      Decides-like _ (λ (e, n). λ i. record { item = e i; distance = n i })
-      (λ e. (λ i. (e i).item, λ i. (e i).distance))
-      (Decides-and _ _ (exact a.item b.item) (Decides-eqb a.distance b.distance))
+  same_line a b = grind (arith, nat_tests)
 
   pub same_lines : (xs ys : List CodeLine) →
       Decides (nat_eq (least_number xs) (least_number ys) &&
@@ -68,10 +60,4 @@ module _ {L : List CodeLine → List CodeLine → Bool}
       (λ f g. pointwise nat_eq f.name g.name && (nat_eq f.line g.line && L (lines_of f) (lines_of g))) p.functions
       q.functions && pointwise (pointwise nat_eq)
       (held_callees p.functions) (held_callees q.functions))) (p ≡ q)
-  same_programs p q =
-      Decides-like _ (λ (n, (fs, _)). λ i. record { first_line = n i; functions = fs i })
-      (λ e. (λ i. (e i).first_line, (λ i. (e i).functions, λ i. held_callees (e i).functions)))
-      (Decides-and _ _ (Decides-eqb p.first_line q.first_line)
-      (Decides-and _ _ (slice_eq-Decides same_functions p.functions q.functions _ refl)
-      (slice_eq-Decides (λ a b. slice_eq-Decides Decides-eqb a b _ refl) (held_callees p.functions)
-      (held_callees q.functions) _ refl)))
+  same_programs p q = grind (arith, nat_tests, Decides-like, Decides-and, Decides-eqb, slice_eq-Decides, same_functions)

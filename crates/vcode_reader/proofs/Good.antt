@@ -1,7 +1,8 @@
--- What can be completed to a program, and the first word that can't.
-use Rattle.std.proofs.Common.{◌≡◌, ℕ, ℤ, Bool, true, false, inl, List, [], ◌∷◌, ◌++◌, Option, Some, None, refl, ap}
-use Rattle.std.proofs.Common.{◌∙◌, sym, subst, codes, append_assoc, lit≤}
-use Rattle.std.specs.Prelude.{pos}
+-- What can be completed to a program, by a name that no function has, and the first word that can't.
+use Rattle.std.proofs.Common.{arith, ◌≡◌, ℕ, ℤ, Bool, true, false, inl, List, [], ◌∷◌, ◌++◌, Option, Some, None, refl}
+use Rattle.std.proofs.Common.{ap, ◌∙◌, sym, codes, append_assoc, lit≤, ◌+◌, ◌/◌, ◌%◌, ◌≤◌, length, cond}
+use Rattle.std.proofs.lemmas.Bool.Decides.{nat_tests}
+use Rattle.std.specs.Prelude.{pos, nat_lt}
 use Rattle.vcode_base.specs.declared.kind.Scalar.{Scalar}
 use Rattle.vcode_base.specs.declared.kind.Scalar.TheVariants as scalar
 use Rattle.vcode_reader.specs.declared.head.Head.TheVariants as head
@@ -12,20 +13,73 @@ use Rattle.vcode_reader.specs.declared.place.Place.TheVariants.{Outside}
 use Rattle.vcode_reader.specs.declared.place.OpenIf.{OpenIf}
 use Rattle.vcode_reader.specs.Drafts.{open_if}
 use Rattle.vcode_reader.specs.First.{IsGood, FirstFault, run}
-use Rattle.vcode_reader.specs.Gram.{Fits, Gram}
+use Rattle.vcode_reader.specs.Gram.{Fits, Gram, IsName}
 use Rattle.vcode_reader.specs.Heads.{head_of, rows}
 use Rattle.vcode_reader.specs.Keywords.{ItemParts, instruction_of, takes_int}
 use Rattle.vcode_reader.specs.Numbers.{number_of, truth_of, value_of}
-use Rattle.vcode_reader.specs.Parsing.{Parse, start, take}
+use Rattle.vcode_reader.specs.Parsing.{Parse, start, take, has_name}
 use Rattle.vcode_reader.specs.Refusals.{Fault}
 use Rattle.vcode_reader.specs.Scan.{Word}
 use Rattle.vcode_reader.specs.Trees.{CodeLine, Function}
-use Rattle.vcode_reader.proofs.Fresh.{new_name_for}
 use Rattle.vcode_reader.proofs.Runs.{run-append, no_run, word_run, Open, with_item, between, naming_at, within, going}
 use Rattle.vcode_reader.proofs.Runs.{in_elements, take_word, take_close, take_name, take_return, take_endif}
 use Rattle.vcode_reader.proofs.Runs.{take_endif_alone, opened, gram_run}
 use Rattle.vcode_reader.proofs.Sound.{Stands, at_outside, at_name, at_inside, at_words, at_elements, run_sound}
 use Rattle.vcode_reader.proofs.Sound.{at_start, faulty_run, some_none}
+use Rattle.std.specs.Str.{bytes_eq}
+use Rattle.std.proofs.lemmas.Slice.Eq.{bytes_eq-Decides}
+
+-- ---- a name that no function has
+
+-- the numbers but k
+skip : ℕ → ℕ → ℕ
+skip k i = cond (nat_lt i k) i (i + 1)
+
+skip_is_other : (k i : ℕ) → skip k i ≡ k → ⊥
+unfolding skip
+skip_is_other k i h = grind (arith, nat_tests)
+
+skip_is_one : (k i j : ℕ) → skip k i ≡ skip k j → i ≡ j
+unfolding skip
+skip_is_one k i j h = grind (arith, nat_tests)
+
+skip_is_next : (k i : ℕ) → skip k i ≤ i + 1
+unfolding skip
+skip_is_next k i = grind (arith, nat_tests)
+
+-- of more names than there are functions, one is new
+pub fresh : (fs : List Function) (f : ℕ → List ℕ) → ((i j : ℕ) → f i ≡ f j → i ≡ j) →
+    (k : ℕ) × (k ≤ length fs) × (has_name (f k) fs ≡ false)
+fresh [] f one = (0, omega arith, refl)
+fresh (g ∷ fs) f one =
+    let (k, le, new) = fresh fs f one in
+    let (j, less, other) = fresh fs (λ i. f (skip k i)) (λ i j h. skip_is_one k i j (one _ _ h)) in
+    by (bytes_eq (f k) g.name) k le new refl j less other
+  where
+    by : (b : Bool) (k : ℕ) → k ≤ length fs → has_name (f k) fs ≡ false → bytes_eq (f k) g.name ≡ b → (j : ℕ) →
+        j ≤ length fs → has_name (f (skip k j)) fs ≡ false →
+        (k : ℕ) × (k ≤ length (g ∷ fs)) × (has_name (f k) (g ∷ fs) ≡ false)
+    by false k le new e j less other = (k, omega arith, rw (e, new) refl)
+    by true k le new e j less other =
+        let far = skip_is_next k j in
+        (skip k j, omega arith, grind (arith, bytes_eq-Decides, skip_is_other k j, one (skip k j) k))
+
+candidate : ℕ → List ℕ
+candidate k = (65 + k / 32) ∷ (65 + k % 32) ∷ []
+
+candidate_is_one : (i j : ℕ) → candidate i ≡ candidate j → i ≡ j
+unfolding candidate
+candidate_is_one i j h = grind (arith, nat_tests)
+
+candidate_is_name : (k : ℕ) → IsName (candidate k)
+unfolding candidate
+candidate_is_name k = grind (arith, nat_tests)
+
+pub new_name_for : (fs : List Function) → (t : List ℕ) × IsName t × (has_name t fs ≡ false)
+new_name_for fs = let found = fresh fs candidate candidate_is_one in
+    (candidate found.0, candidate_is_name found.0, found.2)
+
+-- ---- what can be completed to a program, and the first word that can't
 
 word : List ℕ → Word
 word t = record { text = t; line = 0 }
@@ -57,7 +111,8 @@ fitting (Count which) q = (codes "0", _, (0, (zero_number, lit≤ tt), refl))
 fitting Callee q = (codes "f", _, (record { bare = refl; good = refl; short = lit≤ tt }, refl))
 
 pub run-last : (ws : List Word) (w : Word) (p : Parse) → run p (ws ++ w ∷ []) ≡ take w.text w.line (run p ws)
-run-last ws w p = run-append p ws (w ∷ []) ∙ word_run _ _ _ w [] refl (no_run _)
+unfolding run
+run-last ws w p = grind (arith, run-append)
 
 -- some words lead from p to the end of a function
 Ends : Parse → Type 0
@@ -77,11 +132,9 @@ endif_ends : (c : Bool) (b : Bool) (l : ℕ) (is : List OpenIf) (fs : List Funct
     Ends (within b (opened fs name line code (open_if l c ∷ is)))
 unfolding word
 endif_ends true b l is fs name line code h =
-    after_word
-    (codes "ENDIF") _ _ (take_endif b (word (codes "ENDIF")) fs name line code l is endif_head) (h _)
+    after_word _ _ _ (take_endif b (word (codes "ENDIF")) fs name line code l is endif_head) (h _)
 endif_ends false b l is fs name line code h =
-    after_word
-    (codes "ENDIF") _ _ (take_endif_alone b (word (codes "ENDIF")) fs name line code l is endif_head) (h _)
+    after_word _ _ _ (take_endif_alone b (word (codes "ENDIF")) fs name line code l is endif_head) (h _)
 
 ifs_end : (ifs : List OpenIf) (b : Bool) (fs : List Function) (name : List ℕ) (line : ℕ) (code : List CodeLine) →
     Ends (within b (opened fs name line code ifs))
@@ -102,35 +155,20 @@ going_ends (s ∷ slots) k begun q o =
     let (t, r, h) = fitting s q in
     after_word t _ _ (take_word s t q r k begun 0 slots o h) (going_ends slots k begun r o)
 
-ends_at : (p q : Parse) → p ≡ q → Ends q → Ends p
-ends_at p q e h = subst Ends (sym e) h
-
 ends : (p : Parse) (ws : List Word) → Stands p ws → Ends p
-ends p ws (at_outside fs e g) = ends_at p _ e (at_end fs)
+ends p ws (at_outside fs e g) = rw e (at_end fs)
 ends p ws (at_name fs u func e f h g r) =
-    let new = new_name_for fs in
-    ends_at p _ e (after_word new.0 _ _ (take_name new.0 func.line 0 fs new.1 new.2) (inside_ends _ _))
-ends p ws (at_inside b o e h m) = ends_at p _ e (inside_ends b o)
-ends p ws (at_words k s slots q o first done e h) = ends_at p _ e (going_ends (s ∷ slots) k first.line q o)
+    let (t, name, new) = new_name_for fs in
+    rw e (after_word t _ _ (take_name t func.line 0 fs name new) (inside_ends _ _))
+ends p ws (at_inside b o e h m) = rw e (inside_ends b o)
+ends p ws (at_words k s slots q o first done e h) = rw e (going_ends (s ∷ slots) k first.line q o)
 ends p ws (at_elements k slots before ns o first opened done inner e u f h t m le) =
-    ends_at p _ e
-    (after_word (codes ")") _ _ (take_close k first.line opened.line 0 slots _ o)
-    (going_ends slots k first.line _ o))
-
-inside_not_outside : (b : Bool) (o : Open) (p : Parse) → p ≡ within b o → p.place ≡ Outside → ⊥
-unfolding within
-inside_not_outside true o p e h = let d = ap (λ (q : Parse). q.place) e in cc
-inside_not_outside false o p e h = let d = ap (λ (q : Parse). q.place) e in cc
+    rw e (after_word _ _ _ (take_close k first.line opened.line 0 slots _ o) (going_ends slots k first.line _ o))
 
 outside_gram : (p : Parse) (ws : List Word) → Stands p ws → p.place ≡ Outside →
     (fs : List Function) × (p ≡ between fs) × Gram fs ws
 unfolding naming_at within going in_elements
-outside_gram p ws (at_outside fs e g) h = (fs, e, g)
-outside_gram p ws (at_name fs u func e f t g r) h = absurd (let d = ap (λ (q : Parse). q.place) e in cc)
-outside_gram p ws (at_inside b o e g m) h = absurd (inside_not_outside b o p e h)
-outside_gram p ws (at_words k s slots ns o first done e g) h = absurd (let d = ap (λ (q : Parse). q.place) e in cc)
-outside_gram p ws (at_elements k slots before ns o first opened done inner e u f g t m le) h =
-    absurd (let d = ap (λ (q : Parse). q.place) e in cc)
+outside_gram p ws stands h = grind (arith, nat_tests)
 
 -- the present words can be completed
 pub stands_good : (p : Parse) (ws : List Word) → Stands p ws → IsGood ws
@@ -144,11 +182,7 @@ stands_good p ws st =
 -- what has a fault can't be
 faulty_not_good : (ws : List Word) (x : Fault) → (run start ws).fault ≡ Some x → IsGood ws → ⊥
 unfolding between
-faulty_not_good ws x h (more, fs, g) =
-    some_none (run start ws).fault x h
-    (ap (λ (q : Parse). q.fault)
-    (sym (faulty_run more (run start ws) x h)
-    ∙ (sym (run-append start ws more) ∙ gram_run fs (ws ++ more) g)))
+faulty_not_good ws x h good = grind (arith, nat_tests, some_none, faulty_run, run-append, gram_run)
 
 -- the words so far, if they have no fault
 pub run_stands : (ws : List Word) → (run start ws).fault ≡ None → Stands (run start ws) ws
@@ -167,30 +201,23 @@ faulty_word before ws w fault h k = record {
   after = ws;
   words_are = refl;
   good = stands_good _ before (run_stands before h);
-  not_good =
-      faulty_not_good (before ++ w ∷ []) fault (ap (λ (q : Parse). q.fault) (run-last before w start) ∙ k);
+  not_good = faulty_not_good (before ++ w ∷ []) fault (rw run-last k);
   refusal = k;
 }
 
 -- if the words have a fault, one of them is the first that has one
 pub faulty : (ws before : List Word) (fault : Fault) → (run start before).fault ≡ None →
     (run (run start before) ws).fault ≡ Some fault → FirstFault (before ++ ws) fault
-faulty [] before fault h k =
-    some_none (run start before).fault fault (ap (λ (q : Parse). q.fault) (sym (no_run _)) ∙ k) h
+unfolding run
+faulty [] before fault h k = grind arith
 faulty (w ∷ ws) before fault h k =
-    by_fault (take w.text w.line (run start before)).fault w ws before fault refl h
-    (ap (λ (q : Parse). q.fault) (sym (word_run _ _ _ w ws refl refl)) ∙ k) (faulty ws (before ++ w ∷ []) fault)
+    by (take w.text w.line (run start before)).fault refl (faulty ws (before ++ w ∷ []) fault)
   where
-    by_fault : (o : Option Fault) (w : Word) (ws before : List Word) (fault : Fault) →
-        (take w.text w.line (run start before)).fault ≡ o → (run start before).fault ≡ None →
-        (run (take w.text w.line (run start before)) ws).fault ≡ Some fault →
-        ((run start (before ++ w ∷ [])).fault ≡ None →
-        (run (run start (before ++ w ∷ [])) ws).fault ≡ Some fault →
+    by : (o : Option Fault) → (take w.text w.line (run start before)).fault ≡ o →
+        ((run start (before ++ w ∷ [])).fault ≡ None → (run (run start (before ++ w ∷ [])) ws).fault ≡ Some fault →
         FirstFault ((before ++ w ∷ []) ++ ws) fault) → FirstFault (before ++ w ∷ ws) fault
-    by_fault (Some x) w ws before fault e h k more =
+    by (Some x) e more =
         faulty_word before ws w fault h
         (ap (λ (q : Parse). q.fault) (sym (faulty_run ws (take w.text w.line (run start before)) x e)) ∙ k)
-    by_fault None w ws before fault e h k more =
-        subst (λ z. FirstFault z fault) (append_assoc before (w ∷ []) ws)
-        (more (ap (λ (q : Parse). q.fault) (run-last before w start) ∙ e)
-        (ap (λ z. (run z ws).fault) (run-last before w start) ∙ k))
+    by None e more =
+        rw (← append_assoc before (w ∷ []) ws) (more (grind (arith, run-last)) (grind (arith, run-last)))

@@ -1,17 +1,61 @@
--- Words that lie whole in a piece.
-use Rattle.std.proofs.Common.{◌≡◌, ◌∙◌, ℕ, suc, ◌+◌, ◌==◌, ◌<◌, ◌≤◌, Bool, true, false, List, [], ◌∷◌, ◌++◌, Some}
-use Rattle.std.proofs.Common.{None}
-use Rattle.std.proofs.Common.{refl, arith, ap, sym, length, take, drop, get_or, append_assoc}
+-- How many lines a text has, and words that lie whole in a piece.
+use Rattle.std.proofs.lemmas.List.{drop_all, append-nil, drop_more, drop-drop, length-drop}
+use Rattle.std.proofs.Common.{◌≡◌, ◌∙◌, ℕ, suc, ◌+◌, ◌==◌, ◌<◌, ◌≤◌, Bool, true, false, List, [], ◌∷◌, ◌++◌, Some, None}
+use Rattle.std.proofs.Common.{refl, arith, ap, length, take, drop, get_or, append_assoc, add-zero, sym}
 use Rattle.std.specs.Prelude.{if◌then◌else◌, Option, codes, is_some}
 use Rattle.std.proofs.lemmas.Bool.Decides.{nat_tests}
-use Rattle.std.proofs.lemmas.List.{append-nil, drop_more, drop-drop, length-drop}
 use Rattle.vcode_reader.specs.declared.class.Class.{Class}
-use Rattle.vcode_reader.specs.declared.class.Class.TheVariants.{LineFeed, Blank, OpenBrace, CloseBrace, Parenthesis}
-use Rattle.vcode_reader.specs.declared.class.Class.TheVariants.{Plain, Refused}
+use Rattle.vcode_reader.specs.declared.class.Class.TheVariants.{Plain, LineFeed}
 use Rattle.vcode_reader.specs.Ahead.{HasWord}
 use Rattle.vcode_reader.specs.Classes.{class_of, is_passed, is_plain, passed_length, plain_length}
-use Rattle.vcode_reader.specs.Scan.{Scan, Emit, end_word, ends_word, lone_word, by_comment, in_comment, scan_byte}
-use Rattle.vcode_reader.specs.Scan.{scan_all}
+use Rattle.vcode_reader.specs.Scan.{Scan, Emit, end_word, by_comment, scan_byte, scan_all, lone_word}
+use Rattle.std.proofs.lemmas.Grind.{common_steps}
+use Rattle.vcode_base.specs.Lines.{line_feeds}
+
+-- ---- how many lines a text has
+
+end_word-line : {P : Type 0} (emit : Emit P) (r : Scan P) → (end_word emit r).line ≡ r.line
+unfolding end_word
+end_word-line emit r = grind (arith, nat_tests)
+
+scan_all_lines : {P : Type 0} (emit : Emit P) (r : Scan P) (b : ℕ) (bs : List ℕ) →
+    (scan_byte emit r b).line + line_feeds bs ≡ r.line + line_feeds (b ∷ bs)
+unfolding scan_byte lone_word class_of
+scan_all_lines emit r b bs = grind (arith, nat_tests, end_word-line, add-zero)
+
+pub next_room : {P : Type 0} (r : Scan P) (b m : ℕ) (rest all : List ℕ) → all ≡ b ∷ rest →
+    r.line + line_feeds all < m → class_of b ≡ LineFeed → r.line + 1 < m
+unfolding class_of
+next_room r b m rest all e h f = grind (arith, nat_tests)
+
+pub later_same : {P : Type 0} (emit : Emit P) (r n : Scan P) (b : ℕ) (rest all : List ℕ) → all ≡ b ∷ rest →
+    n ≡ scan_byte emit r b → scan_all emit r all ≡ scan_all emit n rest
+unfolding scan_all
+later_same emit r n b rest all e f = ap (scan_all emit r) e ∙ sym (ap (λ x. scan_all emit x rest) f)
+
+-- each byte of a text moves the line on if it is an LF
+pub scan_all-line : {P : Type 0} (emit : Emit P) (bs : List ℕ) (r : Scan P) →
+    (scan_all emit r bs).line ≡ r.line + line_feeds bs
+unfolding scan_all
+scan_all-line emit [] r = sym (add-zero r.line)
+scan_all-line emit (b ∷ bs) r = scan_all-line emit bs (scan_byte emit r b) ∙ scan_all_lines emit r b bs
+
+pub scan_all-append : {P : Type 0} (emit : Emit P) (xs ys : List ℕ) (r : Scan P) →
+    scan_all emit r (xs ++ ys) ≡ scan_all emit (scan_all emit r xs) ys
+unfolding scan_all
+scan_all-append emit [] ys r = refl
+scan_all-append emit (b ∷ xs) ys r = scan_all-append emit xs ys (scan_byte emit r b)
+
+-- what is left of a text after some of it has as many lines as are to come
+pub same_room : {P : Type 0} (emit : Emit P) (r n : Scan P) (m : ℕ) (all rest : List ℕ) →
+    scan_all emit r all ≡ scan_all emit n rest → r.line + line_feeds all < m → n.line + line_feeds rest < m
+same_room {P} emit r n m all rest e h = grind (arith, nat_tests, scan_all-line)
+
+pub none_left : {P : Type 0} (emit : Emit P) (r : Scan P) (rest : List ℕ) → rest ≡ [] → scan_all emit r rest ≡ r
+unfolding scan_all
+none_left emit r rest e = rw e refl
+
+-- ---- words that lie whole in a piece
 
 -- most bytes of words lie in one range
 pub plain_range : (b : ℕ) → 42 ≤ b → b ≤ 122 → is_plain (class_of b) ≡ true
@@ -53,15 +97,9 @@ none_follows (b ∷ bs) = none_follows_by (class_of b) b bs refl (none_follows b
 
 -- ---- plain bytes join the open word
 
-plain_byte : {P : Type 0} (emit : Emit P) (b : ℕ) (s : Scan P) → s.comment ≡ None → class_of b ≡ Plain →
-    scan_byte emit s b ≡ record s { word = s.word ++ b ∷ [] }
-unfolding scan_byte
-plain_byte emit b s none e = rw (none, e) refl
-
 same_word : {P : Type 0} (emit : Emit P) (t : List ℕ) (s : Scan P) →
     scan_all emit s t ≡ scan_all emit (record s { word = s.word ++ [] }) t
-same_word {P = P} emit t s =
-    ap (λ (w : List ℕ). let r : Scan P = record s { word = w } in scan_all emit r t) (sym (append-nil s.word))
+same_word {P} emit t s = grind (arith, nat_tests, append-nil)
 
 run_by : {P : Type 0} (emit : Emit P) (c : Class) (b : ℕ) (bs : List ℕ) (s : Scan P) → s.comment ≡ None →
     class_of b ≡ c →
@@ -71,13 +109,8 @@ run_by : {P : Type 0} (emit : Emit P) (c : Class) (b : ℕ) (bs : List ℕ) (s :
     scan_all emit s (b ∷ bs)
     ≡ scan_all emit (record s { word = s.word ++ take (front c bs) (b ∷ bs) })
     (drop (front c bs) (b ∷ bs))
-unfolding scan_all
-run_by {P = P} emit Plain b bs s none e h =
-    ap (λ (r : Scan P). scan_all emit r bs) (plain_byte emit b s none e)
-    ∙ (h ∙ ap (λ (w : List ℕ). let r : Scan P = record s { word = w } in scan_all emit r (drop (plain_length bs) bs))
-    (append_assoc s.word (b ∷ []) (take (plain_length bs) bs)))
-run_by emit LineFeed b bs s none e h = same_word emit (b ∷ bs) s
-run_by emit _ b bs s none e h = same_word emit (b ∷ bs) s
+unfolding scan_all scan_byte
+run_by {P = P} emit c b bs s none e h = grind (arith, append_assoc, append-nil)
 
 -- the plain bytes at the front of a text are bytes of the open word
 pub plain_run : {P : Type 0} (emit : Emit P) (t : List ℕ) (s : Scan P) → s.comment ≡ None →
@@ -89,26 +122,10 @@ plain_run emit (b ∷ bs) s none =
 
 -- ---- a word ends before a byte that isn't plain
 
-ends_once : {P : Type 0} (emit : Emit P) (t : List ℕ) (s : Scan P) → s.word ≡ t →
-    end_word emit (ends_word emit t s) ≡ ends_word emit t s
-unfolding end_word
-ends_once emit [] s e = rw e refl
-ends_once emit (b ∷ t) s e = refl
-
-end_word_once : {P : Type 0} (emit : Emit P) (s : Scan P) → end_word emit (end_word emit s) ≡ end_word emit s
-unfolding end_word
-end_word_once emit s = ends_once emit s.word s refl
-
 ends_by : {P : Type 0} (emit : Emit P) (c : Class) (b : ℕ) (t : List ℕ) (s : Scan P) → front c t ≡ 0 →
     by_comment emit None c b s ≡ by_comment emit None c b (end_word emit s)
-ends_by emit Plain b t s h = absurd (omega arith)
-ends_by {P = P} emit LineFeed b t s h =
-    ap (λ (e : Scan P). let r : Scan P = record e { line = e.line + 1 } in r) (sym (end_word_once emit s))
-ends_by emit Blank b t s h = sym (end_word_once emit s)
-ends_by {P = P} emit OpenBrace b t s h =
-    ap (λ (e : Scan P). let r : Scan P = record e { comment = Some e.line } in r) (sym (end_word_once emit s))
-ends_by emit CloseBrace b t s h = ap (lone_word emit b) (sym (end_word_once emit s))
-ends_by emit _ b t s h = ap (lone_word emit b) (sym (end_word_once emit s))
+unfolding end_word
+ends_by emit c b t s h = grind (arith, nat_tests)
 
 whole_by : {P : Type 0} (emit : Emit P) (s : Scan P) (w t : List ℕ) → s.comment ≡ None → s.word ≡ [] →
     1 ≤ length w → 1 ≤ length t → plain_length t ≡ 0 →
@@ -116,62 +133,38 @@ whole_by : {P : Type 0} (emit : Emit P) (s : Scan P) (w t : List ℕ) → s.comm
 unfolding scan_all scan_byte end_word
 whole_by emit s [] t none empty some more h = absurd (omega arith)
 whole_by emit s (c ∷ w) [] none empty some more h = absurd (omega arith)
-whole_by {P = P} emit s (c ∷ w) (b ∷ t) none empty some more h =
-    ap (λ (r : Scan P). scan_all emit r t)
-    (rw (none, empty) (ends_by emit (class_of b) b t
-    (record { found = s.found; line = s.line; word = c ∷ w; comment = None }) h))
+whole_by {P = P} emit s (c ∷ w) (b ∷ t) none empty some more h = grind (arith, nat_tests, ends_by)
 
 -- plain bytes are a whole word if none is open and other bytes follow
 pub whole_word : {P : Type 0} (emit : Emit P) (t plain rest : List ℕ) (s : Scan P) → s.comment ≡ None → s.word ≡ [] →
     plain ≡ take (plain_length t) t → rest ≡ drop (plain_length t) t → 1 ≤ length plain → 1 ≤ length rest →
     scan_all emit s t ≡ scan_all emit (record s { found = emit plain s.line s.found }) rest
-whole_word {P = P} emit t plain rest s none empty front behind some more =
-    plain_run emit t s none
-    ∙ (ap (λ (w : List ℕ). let r : Scan P = record s { word = w ++ take (plain_length t) t } in
-    scan_all emit r (drop (plain_length t) t)) empty
-    ∙ rw (front, behind) (whole_by emit s (take (plain_length t) t) (drop (plain_length t) t) none empty
-    (rw front at some) (rw behind at more) (none_follows t)))
+whole_word {P} emit t plain rest s none empty front behind some more =
+    grind (arith, nat_tests, plain_run, whole_by, none_follows)
 
 -- ---- one byte between words, where no word is open
 
-blank_passed : {P : Type 0} (emit : Emit P) (s : Scan P) (rest : List ℕ) → s.comment ≡ None → s.word ≡ [] →
-    scan_all emit s (32 ∷ rest) ≡ scan_all emit s rest
-unfolding scan_all scan_byte end_word class_of
-blank_passed {P = P} emit s rest none empty = ap (λ (r : Scan P). scan_all emit r rest) (rw (none, empty) refl)
-
-feed_passed : {P : Type 0} (emit : Emit P) (s : Scan P) (rest : List ℕ) → s.comment ≡ None → s.word ≡ [] →
-    scan_all emit s (10 ∷ rest) ≡ scan_all emit (record s { line = s.line + 1 }) rest
-unfolding scan_all scan_byte end_word class_of
-feed_passed {P = P} emit s rest none empty = ap (λ (r : Scan P). scan_all emit r rest) (rw (none, empty) refl)
-
--- a text that begins with a byte
-begins_with : (t : List ℕ) (b : ℕ) → 1 ≤ length t → get_or t 0 0 ≡ b → t ≡ b ∷ drop 1 t
-begins_with t b some h = drop_more t 0 0 some ∙ ap (λ x. x ∷ drop 1 t) h
-
 pub passes_blank : {P : Type 0} (emit : Emit P) (s : Scan P) (t rest : List ℕ) → s.comment ≡ None → s.word ≡ [] →
     1 ≤ length t → get_or t 0 0 ≡ 32 → rest ≡ drop 1 t → scan_all emit s t ≡ scan_all emit s rest
-passes_blank emit s t rest none empty some h e =
-    rw (begins_with t 32 some h, e) (blank_passed emit s (drop 1 t) none empty)
+unfolding scan_all scan_byte end_word class_of
+passes_blank emit s t rest none empty some h e = grind (arith, nat_tests, drop_more)
 
 pub passes_feed : {P : Type 0} (emit : Emit P) (s : Scan P) (t rest : List ℕ) → s.comment ≡ None → s.word ≡ [] →
     1 ≤ length t → get_or t 0 0 ≡ 10 → rest ≡ drop 1 t →
     scan_all emit s t ≡ scan_all emit (record s { line = s.line + 1 }) rest
-passes_feed emit s t rest none empty some h e =
-    rw (begins_with t 10 some h, e) (feed_passed emit s (drop 1 t) none empty)
+unfolding scan_all scan_byte end_word class_of
+passes_feed emit s t rest none empty some h e = grind (arith, nat_tests, drop_more)
 
 -- ---- whether there are bytes, or an open comment
 
 pub is_none : (o : Option ℕ) → is_some o ≡ false → o ≡ None
-is_none None h = refl
-is_none (Some l) h = cc
+is_none o h = grind (arith, nat_tests)
 
 pub some_bytes : (t : List ℕ) → (length t == 0) ≡ false → 1 ≤ length t
-some_bytes [] h = cc
-some_bytes (b ∷ bs) h = omega arith
+some_bytes t h = grind (arith, nat_tests)
 
 pub no_bytes : (t : List ℕ) → (length t == 0) ≡ true → t ≡ []
-no_bytes [] h = refl
-no_bytes (b ∷ bs) h = grind (arith, nat_tests)
+no_bytes t h = grind (arith, common_steps)
 
 -- ---- a word after a blank
 
@@ -182,42 +175,11 @@ separates b low = grind (arith, nat_tests)
 
 pub digit_word : (t : List ℕ) → 3 ≤ length t → get_or t 0 0 ≡ 32 → 48 ≤ get_or t 1 0 → get_or t 1 0 ≤ 57 →
     get_or t 2 0 ≤ 32 → HasWord t (get_or t 1 0 ∷ [])
-digit_word (a ∷ b ∷ c ∷ t) long blank low high next =
-    record {
-      some = omega arith;
-      more = omega arith;
-      blank = blank;
-      plain = rw (plain_range b (omega arith) (omega arith), separates c next) refl;
-      word = refl;
-    }
-digit_word _ long blank low high next = absurd (omega arith)
-
-int_plain : (e : ℕ) (t : List ℕ) → e ≤ 32 → plain_length (73 ∷ 78 ∷ 84 ∷ e ∷ t) ≡ 3
-int_plain e t next =
-    rw (
-      plain_range 73 (omega arith) (omega arith),
-      plain_range 78 (omega arith) (omega arith),
-      plain_range 84 (omega arith) (omega arith),
-      separates e next,
-    ) refl
-
-int_before : (e : ℕ) (t : List ℕ) → e ≤ 32 → HasWord (32 ∷ 73 ∷ 78 ∷ 84 ∷ e ∷ t) (codes "INT")
-int_before e t next =
-    record {
-      some = omega arith;
-      more = omega arith;
-      blank = refl;
-      plain = int_plain e t next;
-      word = refl;
-    }
+digit_word t long blank low high next = grind (arith, common_steps, plain_range, separates)
 
 pub int_word : (t : List ℕ) → 5 ≤ length t → get_or t 0 0 ≡ 32 → get_or t 1 0 ≡ 73 → get_or t 2 0 ≡ 78 →
     get_or t 3 0 ≡ 84 → get_or t 4 0 ≤ 32 → HasWord t (codes "INT")
-int_word (a ∷ b ∷ c ∷ d ∷ e ∷ rest) long blank i n t next = rw (blank, i, n, t) (int_before e rest next)
-int_word _ long blank i n t next = absurd (omega arith)
-
-rest_after : (n : ℕ) (t : List ℕ) → drop n (drop 1 t) ≡ drop (suc n) t
-rest_after n t = let next : suc n ≡ 1 + n = omega arith in rw next (drop-drop n 1 t)
+int_word text long blank i n t next = grind (arith, nat_tests, common_steps, plain_range, separates)
 
 pub dropped : (n : ℕ) (t : List ℕ) → n < length t → 1 ≤ length (drop n t)
 dropped n t more = omega (arith, length-drop n t)
@@ -227,9 +189,8 @@ pub passes_word : {P : Type 0} (emit : Emit P) (s : Scan P) (t w rest : List ℕ
     HasWord t w → rest ≡ drop (suc (length w)) t →
     scan_all emit s t ≡ scan_all emit (record s { found = emit w s.line s.found }) rest
 passes_word emit s t w rest none empty h e =
-    passes_blank emit s t (drop 1 t) none empty (omega (arith, h.more)) h.blank refl
-    ∙ whole_word emit (drop 1 t) w rest s none empty (rw h.plain h.word)
-    (rw h.plain (e ∙ sym (rest_after (length w) t))) h.some (rw e (dropped (suc (length w)) t h.more))
+    let word = whole_word emit (drop 1 t) w rest s none empty (rw h.plain h.word) in
+    grind (arith, passes_blank, dropped, drop-drop)
 
 -- ---- bytes that change nothing in a comment
 
@@ -245,31 +206,22 @@ pub passed_within : (t : List ℕ) → passed_length t ≤ length t
 passed_within [] = omega arith
 passed_within (b ∷ bs) = within_by (is_passed (class_of b)) (passed_length bs) (length bs) (passed_within bs)
 
-passed_byte : {P : Type 0} (emit : Emit P) (c : Class) (b l : ℕ) (s : Scan P) → s.comment ≡ Some l → class_of b ≡ c →
-    scan_byte emit s b ≡ in_comment c s
-unfolding scan_byte
-passed_byte emit c b l s begun e =
-    ap (λ o. by_comment emit o (class_of b) b s) begun ∙ ap (λ k. in_comment k s) e
-
-passed_by : {P : Type 0} (emit : Emit P) (c : Class) (b l : ℕ) (bs : List ℕ) (s : Scan P) → s.comment ≡ Some l →
-    class_of b ≡ c → scan_all emit s bs ≡ scan_all emit s (drop (passed_length bs) bs) →
-    scan_all emit s (b ∷ bs) ≡ scan_all emit s (drop (if is_passed c then suc (passed_length bs) else 0) (b ∷ bs))
-unfolding scan_all
-passed_by emit Blank b l bs s begun e h = ap (λ r. scan_all emit r bs) (passed_byte emit Blank b l s begun e) ∙ h
-passed_by emit OpenBrace b l bs s begun e h = ap (λ r. scan_all emit r bs)
-    (passed_byte emit OpenBrace b l s begun e) ∙ h
-passed_by emit Parenthesis b l bs s begun e h =
-    ap (λ r. scan_all emit r bs) (passed_byte emit Parenthesis b l s begun e) ∙ h
-passed_by emit Plain b l bs s begun e h = ap (λ r. scan_all emit r bs) (passed_byte emit Plain b l s begun e) ∙ h
-passed_by emit Refused b l bs s begun e h = ap (λ r. scan_all emit r bs) (passed_byte emit Refused b l s begun e) ∙ h
-passed_by emit _ b l bs s begun e h = refl
-
 pub comment_passed : {P : Type 0} (emit : Emit P) (l : ℕ) (t : List ℕ) (s : Scan P) → s.comment ≡ Some l →
     scan_all emit s t ≡ scan_all emit s (drop (passed_length t) t)
+unfolding scan_all scan_byte
 comment_passed emit l [] s begun = refl
-comment_passed emit l (b ∷ bs) s begun =
-    passed_by emit (class_of b) b l bs s begun refl (comment_passed emit l bs s begun)
+comment_passed emit l (b ∷ bs) s begun = grind (arith, nat_tests, comment_passed emit l bs s begun)
 
 pub is_some_line : (o : Option ℕ) → is_some o ≡ true → (l : ℕ) × (o ≡ Some l)
-is_some_line None h = cc
-is_some_line (Some l) h = (l, refl)
+is_some_line o h = grind (arith, nat_tests)
+
+-- one blank or LF is passed over
+pub ruleset separator_steps = (no_bytes, is_none, some_bytes, passes_blank, passes_feed)
+
+-- how many bytes at the front are plain, or change nothing in a comment
+pub ruleset plain_steps = (plain_at, none_at, drop_all)
+
+pub ruleset passed_steps = (passed_at, none_passed_at, drop_all)
+
+-- the front of a comment is passed over
+pub ruleset comment_steps = (is_some_line, comment_passed, passed_within)

@@ -1,20 +1,19 @@
 -- What the words of the grammar give: the program that it relates to them.
+use Rattle.std.proofs.lemmas.Bool.Decides.{nat_tests}
 use Rattle.std.proofs.Common.{◌≡◌, ◌≢◌, ℕ, suc, ℤ, ◌<◌, ◌≤◌, Bool, true, false, inl, inr, List, [], ◌∷◌, ◌++◌, length}
-use Rattle.std.proofs.Common.{Some, None, Ok, refl, arith, ap, ◌∙◌, sym, codes, append_assoc, length-append}
+use Rattle.std.proofs.Common.{Some, None, refl, arith, ap, ◌∙◌, sym, codes, append_assoc, length-append}
 use Rattle.std.specs.List.{AllByRecursion}
 use Rattle.std.specs.Str.{bytes_eq}
 use Rattle.std.proofs.lemmas.Slice.Eq.{bytes_eq-Decides}
 use Rattle.std.proofs.lemmas.List.{append-nil}
 use Rattle.std.proofs.lemmas.Bool.{false_from_ne_true, lt-ltb, le-ltb}
 use Rattle.vcode_base.specs.declared.kind.Scalar.{Scalar}
-use Rattle.vcode_base.specs.declared.kind.Scalar.TheVariants as scalar
 use Rattle.vcode_base.specs.declared.limits.TheConstants.{LONGEST_NAME, MOST_FUNCTIONS, MOST_OPEN_IFS, MOST_ELEMENTS}
-use Rattle.vcode_base.specs.declared.limits.TheConstants.{MOST_MOVED}
 use Rattle.vcode_reader.specs.declared.head.Head.{Head}
 use Rattle.vcode_reader.specs.declared.head.Head.TheVariants as head
 use Rattle.vcode_reader.specs.declared.keyword.Keyword.{Keyword}
 use Rattle.vcode_reader.specs.declared.keyword.WordSlot.{WordSlot}
-use Rattle.vcode_reader.specs.declared.keyword.WordSlot.TheVariants.{Int, Kind, Values, Count, Callee}
+use Rattle.vcode_reader.specs.declared.keyword.WordSlot.TheVariants.{Values}
 use Rattle.vcode_reader.specs.declared.place.Place.{Place}
 use Rattle.vcode_reader.specs.declared.place.Place.TheVariants.{Name, Words, Elements}
 use Rattle.vcode_reader.specs.Decode.{tree_of, tree_of-body_lines}
@@ -22,13 +21,12 @@ use Rattle.vcode_reader.specs.declared.line.CodeItem.TheVariants as code_item
 use Rattle.vcode_reader.specs.declared.place.OpenIf.{OpenIf}
 use Rattle.vcode_reader.specs.Drafts.{open_if}
 use Rattle.vcode_reader.specs.First.{run}
-use Rattle.vcode_reader.specs.Gram.{IsName, IsCount, Fits, AreValues, AreListed, FillOne, Fill, MayBeInt, IsHead}
-use Rattle.vcode_reader.specs.Gram.{IsInstruction, IsElse, IsBody, IsFunction, AreFunctions, NamesDiffer, Gram}
+use Rattle.vcode_reader.specs.Gram.{IsName, Fits, AreValues, AreListed, FillOne, Fill, MayBeInt, IsHead, IsInstruction}
+use Rattle.vcode_reader.specs.Gram.{IsElse, IsBody, IsFunction, AreFunctions, NamesDiffer, Gram}
 use Rattle.vcode_reader.specs.Heads.{rows, head_of, slots_of}
 use Rattle.vcode_reader.specs.Keywords.{ItemParts, no_parts, takes_int, instruction_of}
-use Rattle.vcode_reader.specs.Numbers.{number_of, natural, natural_of, truth_of, value_of}
-use Rattle.vcode_reader.specs.Parsing.{Parse, start, take, item_place, after_slot, with_value, with_count, count_in}
-use Rattle.vcode_reader.specs.Parsing.{word_in, begins_list, inside, outside, has_name}
+use Rattle.vcode_reader.specs.Numbers.{number_of, natural_of, truth_of, value_of}
+use Rattle.vcode_reader.specs.Parsing.{Parse, start, take, item_place, after_slot, inside, outside, has_name}
 use Rattle.vcode_reader.specs.Scan.{Word}
 use Rattle.vcode_reader.specs.Trees.{Item, Body, End, Do, Choice, CodeLine, Function, line_of, instruction_line}
 use Rattle.vcode_reader.specs.Trees.{body_lines}
@@ -44,60 +42,16 @@ pub no_run : (p : Parse) → run p [] ≡ p
 unfolding run
 no_run p = refl
 
-pub then_run : (p q r : Parse) (u v : List Word) → run p u ≡ q → run q v ≡ r → run p (u ++ v) ≡ r
-then_run p q r u v e f = run-append p u v ∙ (ap (λ x. run x v) e ∙ f)
-
 pub word_run : (p q r : Parse) (w : Word) (ws : List Word) → take w.text w.line p ≡ q → run q ws ≡ r →
     run p (w ∷ ws) ≡ r
 unfolding run
 word_run p q r w ws e f = ap (λ x. run x ws) e ∙ f
 
-pub from_words : (p r : Parse) (u v : List Word) → u ≡ v → run p v ≡ r → run p u ≡ r
-from_words p r u v e f = ap (run p) e ∙ f
-
-pub of_text : (t : List ℕ) (w : Word) (p q : Parse) → w.text ≡ t → take t w.line p ≡ q → take w.text w.line p ≡ q
-of_text t w p q h f = ap (λ x. take x w.line p) h ∙ f
-
 -- ---- one word that fills a slot
 
 paren_is_no_value : (k : Scalar) (c : ℕ) → value_of k (c ∷ []) ≡ None → (t : List ℕ) (n : ℤ) → value_of k t ≡ Some n →
     bytes_eq t (c ∷ []) ≡ false
-paren_is_no_value k c h t n e =
-    false_from_ne_true (bytes_eq t (c ∷ []))
-    (λ b. some_none n (sym e ∙ (ap (value_of k) ((bytes_eq-Decides t (c ∷ [])).0 b) ∙ h)))
-  where
-    some_none : (n : ℤ) → Some n ≡ None → ⊥
-    some_none n h = cc
-
-open_is_no_value : (k : Scalar) → value_of k (codes "(") ≡ None
-unfolding number_of truth_of
-open_is_no_value scalar.Int = refl
-open_is_no_value scalar.Bool = refl
-
-close_is_no_value : (k : Scalar) → value_of k (codes ")") ≡ None
-unfolding number_of truth_of
-close_is_no_value scalar.Int = refl
-close_is_no_value scalar.Bool = refl
-
--- a word that fills a slot begins no list there
-fits_no_list : (s : WordSlot) (t : List ℕ) (q r : ItemParts) → Fits s t q r → begins_list s t ≡ false
-fits_no_list Values t q r (n, h, e) = paren_is_no_value q.kind 40 (open_is_no_value q.kind) t n h
-fits_no_list _ t q r h = refl
-
-counted : (t : List ℕ) (n : ℕ) → IsCount t n → count_in (natural_of t) t ≡ Ok n
-unfolding natural_of
-counted t n (h, le) =
-    let same : natural (number_of t) ≡ Some n = ap natural h in
-    ap (λ o. count_in o t) same ∙ rw (le-ltb MOST_MOVED n le) refl
-
--- it gives what the grammar says
-fits_given : (s : WordSlot) (t : List ℕ) (q r : ItemParts) → Fits s t q r → word_in s t q ≡ Ok r
-fits_given Int t q r (h, e) = ap (λ z. word_in Int z q) h ∙ ap Ok (sym e)
-fits_given Kind t q r (inl (h, e)) = ap (λ z. word_in Kind z q) h ∙ ap Ok (sym e)
-fits_given Kind t q r (inr (h, e)) = ap (λ z. word_in Kind z q) h ∙ ap Ok (sym e)
-fits_given Values t q r (n, h, e) = ap (λ o. with_value o t q) h ∙ ap Ok (sym e)
-fits_given (Count which) t q r (n, h, e) = ap (λ o. with_count which o q) (counted t n h) ∙ ap Ok (sym e)
-fits_given Callee t q r (h, e) = rw (h.bare, h.good, le-ltb LONGEST_NAME (length t) h.short) (ap Ok (sym e))
+paren_is_no_value k c h t n e = grind (arith, nat_tests, false_from_ne_true, bytes_eq-Decides)
 
 -- ---- the states that the grammar leads to
 
@@ -129,13 +83,7 @@ closed_at o l = record { name = o.name; line = o.line; body = tree_of o.code; re
 whole : (f : Function) (fs : List Function) (l : ℕ) → l ≡ f.ret →
     closed_at (record { functions = fs; name = f.name; line = f.line; code = body_lines f.body; ifs = [] }) l ≡ f
 unfolding closed_at
-whole f fs l e =
-    ap (λ z. let g : Function = record f { body = tree_of (body_lines f.body); ret = z } in g) e
-    ∙ ap (λ b. let g : Function = record f { body = b } in g) (tree_of-body_lines f.body)
-
-int_begins_nothing : head_of (codes "INT") ≡ head.Other
-unfolding head_of rows
-int_begins_nothing = refl
+whole f fs l e = grind (arith, tree_of-body_lines)
 
 -- the lines of a choice, put together
 regroup : (a x y b : List CodeLine) (i m n : CodeLine) →
@@ -180,15 +128,13 @@ pub after_slot-going : (k : Keyword) (begun : ℕ) (slots : List WordSlot) (plac
     after_slot k begun slots (record (within false o) { place = place; slots = left; parts = q })
     ≡ going k begun slots q o
 unfolding within going with_item
-after_slot-going k begun [] place left q o = refl
-after_slot-going k begun (s ∷ slots) place left q o = refl
+after_slot-going k begun slots place left q o = grind (arith, nat_tests)
 
 -- ---- the words of an instruction
 
 known_not_int : (t : List ℕ) → (head_of t ≡ head.Other → ⊥) → bytes_eq t (codes "INT") ≡ false
-known_not_int t h =
-    false_from_ne_true (bytes_eq t (codes "INT"))
-    (λ b. h (ap head_of ((bytes_eq-Decides t (codes "INT")).0 b) ∙ int_begins_nothing))
+unfolding head_of rows
+known_not_int t h = grind (arith, nat_tests, false_from_ne_true, bytes_eq-Decides)
 
 take_item : (b : Bool) (w : Word) (o : Open) {x : Head} → head_of w.text ≡ x → (x ≡ head.Other → ⊥) →
     take w.text w.line (within b o) ≡ inside x (slots_of w.text) w.line (within b o)
@@ -198,9 +144,8 @@ take_item false w o h known = rw h refl
 
 pub take_first : (b : Bool) (w : Word) (k : Keyword) (o : Open) → head_of w.text ≡ head.Start k →
     take w.text w.line (within b o) ≡ going k w.line (slots_of w.text) no_parts o
-unfolding within
-take_first b w k o h =
-    take_item b w o h (λ e. cc) ∙ after_slot-going k w.line (slots_of w.text) (item_place b) [] no_parts o
+unfolding within take going with_item
+take_first b w k o h = grind (arith, nat_tests, known_not_int)
 
 pub take_int : (l : ℕ) (o : Open) → take (codes "INT") l (within true o) ≡ within false o
 unfolding take within
@@ -209,9 +154,8 @@ take_int l o = refl
 pub take_word : (s : WordSlot) (t : List ℕ) (q r : ItemParts) (k : Keyword) (begun l : ℕ) (slots : List WordSlot)
     (o : Open) → Fits s t q r →
     take t l (going k begun (s ∷ slots) q o) ≡ going k begun slots r o
-unfolding take going within
-take_word s t q r k begun l slots o h =
-    rw (fits_no_list s t q r h, fits_given s t q r h) (after_slot-going k begun slots (Words k s begun) slots r o)
+unfolding take going within number_of truth_of natural_of with_item
+take_word s t q r k begun l slots o h = grind (arith, nat_tests, paren_is_no_value, le-ltb)
 
 pub take_open : (k : Keyword) (begun l : ℕ) (slots : List WordSlot) (q : ItemParts) (o : Open) →
     take (codes "(") l (going k begun (Values ∷ slots) q o)
@@ -228,78 +172,57 @@ take_element : (t : List ℕ) (n : ℤ) (k : Keyword) (begun opened l : ℕ) (sl
     (o : Open) → value_of q.kind t ≡ Some n → length q.numbers < MOST_ELEMENTS →
     take t l (in_elements k begun opened slots q o)
     ≡ in_elements k begun opened slots (record q { numbers = q.numbers ++ n ∷ [] }) o
-unfolding take within in_elements
-take_element t n k begun opened l slots q o h lt =
-    rw (paren_is_no_value q.kind 41 (close_is_no_value q.kind) t n h, h, lt-ltb (length q.numbers) MOST_ELEMENTS lt)
-    refl
+unfolding take within in_elements number_of truth_of
+take_element t n k begun opened l slots q o h lt = grind (arith, nat_tests, paren_is_no_value, lt-ltb)
 
 elements_run : (ns : List ℤ) (ws : List Word) (k : Keyword) (begun opened : ℕ) (slots : List WordSlot) (q : ItemParts)
     (o : Open) (done : List ℤ) → AreValues q.kind ns ws → length (done ++ ns) ≤ MOST_ELEMENTS →
     run (in_elements k begun opened slots (record q { numbers = done }) o) ws
     ≡ in_elements k begun opened slots (record q { numbers = done ++ ns }) o
-elements_run [] [] k begun opened slots q o done h le =
-    no_run _ ∙ ap (λ z. in_elements k begun opened slots (record q { numbers = z }) o) (sym (append-nil done))
-elements_run [] (w ∷ ws) k begun opened slots q o done h le = absurd h
-elements_run (n ∷ ns) [] k begun opened slots q o done h le = absurd h
+unfolding run
+elements_run [] [] k begun opened slots q o done h le = grind (arith, append-nil)
 elements_run (n ∷ ns) (w ∷ ws) k begun opened slots q o done h le =
     let regroup : (done ++ n ∷ []) ++ ns ≡ done ++ n ∷ ns = append_assoc done (n ∷ []) ns in
-    word_run _ _ _ w ws
-    (take_element w.text n k begun opened w.line slots (record q { numbers = done }) o h.0 (room done n ns le))
-    (elements_run ns ws k begun opened slots q o (done ++ n ∷ []) h.1 (rw regroup le)
-    ∙ ap (λ z. in_elements k begun opened slots (record q { numbers = z }) o) regroup)
+    let one = take_element w.text n k begun opened w.line slots (record q { numbers = done }) o h.0
+    (room done n ns le) in
+    let rest = elements_run ns ws k begun opened slots q o (done ++ n ∷ []) h.1 (rw regroup le) in
+    grind arith
+elements_run _ _ k begun opened slots q o done h le = absurd h
 
 list_run : (before after : ItemParts) (ws : List Word) (k : Keyword) (begun : ℕ) (slots : List WordSlot) (o : Open) →
     AreListed before after ws →
     run (going k begun (Values ∷ slots) before o) ws ≡ going k begun slots after o
+unfolding run
 list_run before after ws k begun slots o (opened, closed, inner, ns, e, f, g, le, h, r) =
-    from_words _ _ _ _ e
-    (word_run _ _ _ opened _ (of_text (codes "(") opened _ _ f (take_open k begun opened.line slots before o))
-    (then_run _ _ _ inner (closed ∷ []) (elements_run ns inner k begun opened.line slots before o [] h le)
-    (word_run _ _ _ closed []
-    (of_text (codes ")") closed _ _ g
-    (take_close k begun opened.line closed.line slots (record before { numbers = ns }) o))
-    (no_run _ ∙ ap (λ z. going k begun slots z o) (sym r)))))
+    let all = elements_run ns inner k begun opened.line slots before o [] h le in
+    grind (arith, run-append, take_open, take_close)
 
 one_run : (s : WordSlot) (before after : ItemParts) (ws : List Word) (k : Keyword) (begun : ℕ) (slots : List WordSlot)
     (o : Open) → FillOne s before after ws →
     run (going k begun (s ∷ slots) before o) ws ≡ going k begun slots after o
-one_run s before after ws k begun slots o (inl (w, e, h)) =
-    from_words _ _ _ _ e (word_run _ _ _ w [] (take_word s w.text before after k begun w.line slots o h) (no_run _))
-one_run s before after ws k begun slots o (inr (e, h)) =
-    ap (λ z. run (going k begun (z ∷ slots) before o) ws) e ∙ list_run before after ws k begun slots o h
+unfolding run
+one_run s before after ws k begun slots o fill = grind (arith, take_word, list_run)
 
 fill_run : (slots : List WordSlot) (before after : ItemParts) (ws : List Word) (k : Keyword) (begun : ℕ) (o : Open) →
     Fill slots before after ws →
     run (going k begun slots before o) ws ≡ within (takes_int k) (with_item o (instruction_of k after) begun)
-unfolding going
-fill_run [] before after ws k begun o (e, f) =
-    from_words _ _ ws [] f (no_run _ ∙ ap (λ z. within (takes_int k) (with_item o (instruction_of k z) begun)) e)
+unfolding going run
+fill_run [] before after ws k begun o (e, f) = grind arith
 fill_run (s ∷ slots) before after ws k begun o (next, u, rest, e, i, h) =
-    from_words _ _ _ _ e
-    (then_run _ _ _ u rest (one_run s before next u k begun slots o i)
-    (fill_run slots next after rest k begun o h))
+    grind (arith, run-append, one_run s before next u k begun slots o i, fill_run slots next after rest k begun o h)
 
 int_run : (b : Bool) (ws : List Word) (o : Open) → MayBeInt b ws → (c : Bool) × (run (within b o) ws ≡ within c o)
-int_run b ws o (inl e) = (b, from_words _ _ ws [] e (no_run _))
-int_run b ws o (inr (t, w, e, h)) = (
-  false,
-  from_words _ _ _ _ e
-      (word_run _ _ _ w []
-      (ap (λ z. take w.text w.line (within z o)) t ∙ of_text (codes "INT") w _ _ h (take_int w.line o))
-      (no_run _)),
-)
+unfolding run
+int_run b ws o (inl e) = (b, grind arith)
+int_run b ws o (inr (t, w, e, h)) = (false, grind (arith, take_int))
 
 pub instruction_run : (b : Bool) (i : Item) (l : ℕ) (ws : List Word) (o : Open) → IsInstruction i l ws →
     (c : Bool) × (run (within b o) ws ≡ within c (with_item o i l))
+unfolding run
 instruction_run b i l ws o (k, first, rest, last, q, e, h, f, g, m) =
-    let (c, r) = int_run (takes_int k) last (with_item o (instruction_of k q) first.line) m in (
-      c,
-      from_words _ _ _ _ e
-          (word_run _ _ _ first _ (take_first b first k o h.0)
-          (then_run _ _ _ rest last (fill_run (slots_of first.text) no_parts q rest k first.line o g)
-          (r ∙ (ap (λ z. within c (with_item o z first.line)) (sym f)
-          ∙ ap (λ z. within c (with_item o i z)) h.1)))),
-    )
+    let (c, r) = int_run (takes_int k) last (with_item o (instruction_of k q) first.line) m in
+    let filled = fill_run (slots_of first.text) no_parts q rest k first.line o g in
+    (c, grind (arith, run-append, take_first b first k o h.0))
 
 -- ---- bodies and functions
 
@@ -348,43 +271,22 @@ second_run : (c : Bool) (l e : ℕ) (second : Body) (m : List Word) (end : Word)
     ≡ within false
     (opened fs name line
     (((code ++ line_of code_item.Else l ∷ []) ++ body_lines second) ++ line_of code_item.Endif e ∷ []) is)
-unfolding with_code
+unfolding with_code run
 second_run c l e second m end fs name line code is (inl (none, f)) he more =
-    from_words _ _ _ _ (ap (λ z. z ++ end ∷ []) none)
-    (word_run _ _ _ end [] (take_endif_alone c end fs name line code l is he.0)
-    (no_run _
-    ∙ (ap (λ z. within false
-    (opened fs name line ((code ++ line_of code_item.Else l ∷ []) ++ line_of code_item.Endif z ∷ []) is)) he.1
-    ∙ ap (λ z. within false (opened fs name line (z ++ line_of code_item.Endif e ∷ []) is))
-    (sym (ap (λ z. (code ++ line_of code_item.Else l ∷ []) ++ body_lines z) f
-    ∙ append-nil (code ++ line_of code_item.Else l ∷ []))))))
+    grind (arith, append-nil, take_endif_alone c end fs name line code l is he.0)
 second_run c l e second m end fs name line code is (inr (w, u, f, hw, hb)) he more =
-    let (d, r) = more u (opened fs name line (code ++ line_of code_item.Else l ∷ []) (open_if l true ∷ is)) hb in
-    from_words _ _ _ _ (ap (λ z. z ++ end ∷ []) f)
-    (word_run _ _ _ w (u ++ end ∷ []) (take_else c w fs name line code l is hw)
-    (then_run _ _ _ u (end ∷ []) r
-    (word_run _ _ _ end []
-    (take_endif d end fs name line ((code ++ line_of code_item.Else l ∷ []) ++ body_lines second) l is he.0)
-    (no_run _
-    ∙ ap (λ z. within false
-    (opened fs name line
-    (((code ++ line_of code_item.Else l ∷ []) ++ body_lines second) ++ line_of code_item.Endif z ∷ []) is))
-    he.1))))
+    let between : List CodeLine = code ++ line_of code_item.Else l ∷ [] in
+    let (d, r) = more u (opened fs name line between (open_if l true ∷ is)) hb in
+    grind (arith, run-append, take_else, take_endif d end fs name line (between ++ body_lines second) l is he.0)
 
 pub body_run : (b : Bool) (body : Body) (ws : List Word) (o : Open) → IsBody (length o.ifs) body ws →
     Runs b body ws o
-unfolding with_item with_code if_at
-body_run b End ws o h =
-    (b, from_words _ _ ws [] h (no_run _ ∙ ap (λ z. within b (with_code o z)) (sym (append-nil o.code))))
+unfolding with_item with_code if_at run
+body_run b End ws o h = (b, grind (arith, append-nil))
 body_run b (Do i l body) ws o (u, v, e, h, t) =
     let (c, r) = instruction_run b i l u o h in
-    let (d, s) = body_run c body v (with_item o i l) t in (
-      d,
-      from_words _ _ _ _ e
-          (then_run _ _ _ u v r
-          (s ∙ ap (λ z. within d (with_code o z))
-          (append_assoc o.code (instruction_line i l ∷ []) (body_lines body)))),
-    )
+    let (d, s) = body_run c body v (with_item o i l) t in
+    (d, grind (arith, run-append, append_assoc))
 body_run b (Choice l first second e body) ws o (begun, end, u, m, v, q, lt, hi, he, hf, hs, hr) =
     let (c, r) = body_run false first u (if_at o l) hf in
     let code : List CodeLine = (o.code ++ line_of code_item.If l ∷ []) ++ body_lines first in
@@ -392,17 +294,8 @@ body_run b (Choice l first second e body) ws o (begun, end, u, m, v, q, lt, hi, 
     (λ u2 o2 h2. body_run false second u2 o2 h2) in
     let last : List CodeLine =
     ((code ++ line_of code_item.Else l ∷ []) ++ body_lines second) ++ line_of code_item.Endif e ∷ [] in
-    let (d, t) = body_run false body v (with_code o last) hr in (
-      d,
-      from_words _ _ _ _ q
-          (word_run _ _ _ begun _ (take_if b begun o hi.0 lt ∙ ap (λ z. within false (if_at o z)) hi.1)
-          (then_run _ _ _ u (m ++ (end ∷ v)) r
-          (from_words _ _ _ _ (sym (append_assoc m (end ∷ []) v))
-          (then_run _ _ _ (m ++ end ∷ []) v s
-          (t ∙ ap (λ z. within d (with_code o z))
-          (regroup o.code (body_lines first) (body_lines second) (body_lines body) (line_of code_item.If l)
-          (line_of code_item.Else l) (line_of code_item.Endif e))))))),
-    )
+    let (d, t) = body_run false body v (with_code o last) hr in
+    (d, grind (arith, run-append, take_if b begun o hi.0 lt, append_assoc m (end ∷ []) v, regroup))
 
 pub take_func : (w : Word) (fs : List Function) → head_of w.text ≡ head.Func → length fs < MOST_FUNCTIONS →
     take w.text w.line (between fs) ≡ naming_at fs w.line
@@ -417,17 +310,14 @@ take_name t l k fs h new = rw (h.bare, h.good, le-ltb LONGEST_NAME (length t) h.
 function_run : (f : Function) (ws : List Word) (fs : List Function) → IsFunction f ws →
     has_name f.name fs ≡ false → length fs < MOST_FUNCTIONS →
     run (between fs) ws ≡ between (fs ++ f ∷ [])
-unfolding with_code
+unfolding with_code run
 function_run f ws fs (func, name, ret, u, e, wf, wn, good, hb, wr) new lt =
     let (c, r) =
     body_run false f.body u (record { functions = fs; name = f.name; line = f.line; code = []; ifs = [] }) hb in
-    from_words _ _ _ _ e
-    (word_run _ _ _ func _ (take_func func fs wf.0 lt ∙ ap (naming_at fs) wf.1)
-    (word_run _ _ _ name _ (of_text f.name name _ _ wn (take_name f.name f.line name.line fs good new))
-    (then_run _ _ _ u (ret ∷ []) r
-    (word_run _ _ _ ret []
-    (take_return c ret fs f.name f.line (body_lines f.body) wr.0
-    ∙ ap (λ g. between (fs ++ g ∷ [])) (whole f fs ret.line wr.1)) (no_run _)))))
+    let begins = take_func func fs wf.0 lt in
+    let named = take_name f.name f.line name.line fs good new in
+    let ends = take_return c ret fs f.name f.line (body_lines f.body) wr.0 in
+    grind (arith, run-append, whole f fs ret.line wr.1)
 
 all_at : {A : Type 0} (P : A → Type 0) (xs : List A) (y : A) (zs : List A) → AllByRecursion P (xs ++ y ∷ zs) → P y
 all_at P [] y zs h = h.0
@@ -438,11 +328,7 @@ new_name : (done : List Function) (f : Function) (fs : List Function) → NamesD
     has_name f.name done ≡ false
 new_name [] f fs h = refl
 new_name (d ∷ done) f fs h =
-    let other : bytes_eq f.name d.name
-    ≡ false =
-    false_from_ne_true (bytes_eq f.name d.name)
-    (λ b. all_at (λ g. d.name ≢ g.name) done f fs h.0 (sym ((bytes_eq-Decides f.name d.name).0 b))) in
-    rw (other, new_name done f fs h.1) refl
+    grind (arith, bytes_eq-Decides, all_at (λ g. d.name ≢ g.name) done f fs h.0, new_name done f fs h.1)
 
 fewer : (done : List Function) (f : Function) (fs : List Function) → length (done ++ f ∷ fs) ≤ MOST_FUNCTIONS →
     length done < MOST_FUNCTIONS
@@ -451,12 +337,12 @@ fewer done f fs h = omega (arith, length-append done (f ∷ fs))
 functions_run : (fs done : List Function) (ws : List Word) → AreFunctions fs ws → NamesDiffer (done ++ fs) →
     length (done ++ fs) ≤ MOST_FUNCTIONS →
     run (between done) ws ≡ between (done ++ fs)
-functions_run [] done ws h n l = from_words _ _ ws [] h (no_run _ ∙ ap between (sym (append-nil done)))
+unfolding run
+functions_run [] done ws h n l = grind (arith, append-nil)
 functions_run (f ∷ fs) done ws (u, v, e, g, h) n l =
     let regroup : (done ++ f ∷ []) ++ fs ≡ done ++ f ∷ fs = append_assoc done (f ∷ []) fs in
-    from_words _ _ _ _ e
-    (then_run _ _ _ u v (function_run f u done g (new_name done f fs n) (fewer done f fs l))
-    (functions_run fs (done ++ f ∷ []) v h (rw regroup n) (rw regroup l) ∙ ap between regroup))
+    let one = function_run f u done g (new_name done f fs n) (fewer done f fs l) in
+    grind (arith, run-append, functions_run fs (done ++ f ∷ []) v h (rw regroup n) (rw regroup l))
 
 -- what is in the grammar is read, to its program
 pub gram_run : (fs : List Function) (ws : List Word) → Gram fs ws → run start ws ≡ between fs

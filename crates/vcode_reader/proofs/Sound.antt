@@ -1,9 +1,9 @@
 -- What the words so far are, if they have no fault: the place that they lead to, and the part of the grammar that
 -- they spell.
-use Rattle.std.proofs.Common.{◌≡◌, ◌≢◌, ℕ, suc, ℤ, ◌<◌, ◌≤◌, Bool, true, false, inl, inr, ◌||◌, List, [], ◌∷◌, ◌++◌}
-use Rattle.std.proofs.Common.{length, Option, Some, None, Result, Ok, Err, cond, refl, arith, ap, ◌∙◌, sym, subst}
-use Rattle.std.proofs.Common.{codes, append_assoc, length-append, lit≤}
-use Rattle.std.specs.Prelude.{is_some, nat_lt}
+use Rattle.std.proofs.Common.{◌≡◌, ◌≢◌, ℕ, suc, ℤ, ◌<◌, ◌≤◌, Bool, true, false, inl, inr, List, [], ◌∷◌, ◌++◌, length}
+use Rattle.std.proofs.Common.{Option, Some, None, Result, Ok, Err, cond, refl, arith, ap, ◌∙◌, sym, subst, codes}
+use Rattle.std.proofs.Common.{append_assoc, length-append, lit≤}
+use Rattle.std.specs.Prelude.{nat_lt}
 use Rattle.std.specs.List.{AllByRecursion}
 use Rattle.std.specs.Str.{bytes_eq}
 use Rattle.std.proofs.lemmas.Bool.Decides.{nat_tests}
@@ -11,7 +11,7 @@ use Rattle.std.proofs.lemmas.Slice.Eq.{bytes_eq-Decides}
 use Rattle.std.proofs.lemmas.List.{append-nil}
 use Rattle.std.proofs.lemmas.Bool.{or_parts, ltb-false}
 use Rattle.vcode_base.specs.declared.kind.Scalar.{Scalar}
-use Rattle.vcode_base.specs.declared.limits.TheConstants.{LONGEST_NAME, MOST_FUNCTIONS, MOST_OPEN_IFS, MOST_ELEMENTS}
+use Rattle.vcode_base.specs.declared.limits.TheConstants.{MOST_FUNCTIONS, MOST_OPEN_IFS, MOST_ELEMENTS}
 use Rattle.vcode_reader.specs.declared.fault.CodeFault.{CodeFault}
 use Rattle.vcode_reader.specs.declared.fault.CodeFault.TheVariants.{TooLarge}
 use Rattle.vcode_reader.specs.declared.head.Head.{Head}
@@ -26,42 +26,39 @@ use Rattle.vcode_reader.specs.Drafts.{Closing, open_if, first_closing, other_clo
 use Rattle.vcode_reader.specs.Decode.{tree_of, tree_of-body_lines}
 use Rattle.vcode_reader.specs.First.{run}
 use Rattle.vcode_reader.specs.Gram.{IsHead, AreValues, FillOne, Fill, MayBeInt, IsInstruction, IsElse, IsBody, IsName}
-use Rattle.vcode_reader.specs.Gram.{IsFunction, AreFunctions, NamesDiffer, Gram}
+use Rattle.vcode_reader.specs.Gram.{IsFunction, AreFunctions, NamesDiffer, Gram, Fits}
 use Rattle.vcode_reader.specs.Heads.{head_of, slots_of}
 use Rattle.vcode_reader.specs.Keywords.{ItemParts, no_parts, takes_int, instruction_of}
-use Rattle.vcode_reader.specs.Numbers.{value_of}
+use Rattle.vcode_reader.specs.Numbers.{value_of, natural_of}
 use Rattle.vcode_reader.specs.Parsing.{Parse, start, take, with_fault, at_place, item_place, inside, outside}
 use Rattle.vcode_reader.specs.Parsing.{after_name, after_part, word_in, begins_list, in_slot, in_list, one_element}
-use Rattle.vcode_reader.specs.Parsing.{is_bad, is_parenthesis, has_name}
+use Rattle.vcode_reader.specs.Parsing.{has_name}
 use Rattle.vcode_reader.specs.Refusals.{Fault}
 use Rattle.vcode_reader.specs.Scan.{Word}
 use Rattle.vcode_reader.specs.Trees.{Item, Body, End, Do, Choice, CodeLine, Function, line_of, instruction_line}
 use Rattle.vcode_reader.specs.Trees.{body_lines}
-use Rattle.vcode_reader.proofs.Drafting.{closing, item_endings, if_endings, else_endings, endif_endings}
-use Rattle.vcode_reader.proofs.Drafting.{alone_endings}
-use Rattle.vcode_reader.proofs.Fitting.{given_fits, list_begins}
-use Rattle.vcode_reader.proofs.Runs.{no_run, word_run, Open, with_item, between, naming_at, within, going}
-use Rattle.vcode_reader.proofs.Runs.{in_elements, after_slot-going, closed_at, if_at, opened}
+use Rattle.vcode_reader.proofs.Drafting.{closing, item_endings, if_endings, else_endings, endif_endings, alone_endings}
+use Rattle.vcode_reader.proofs.Runs.{no_run, word_run, Open, with_item, between, naming_at, within, going, in_elements}
+use Rattle.vcode_reader.proofs.Runs.{after_slot-going, closed_at, if_at, opened}
+
+-- ---- slots
+
+-- a word that is taken in a slot fits it
+pub given_fits : (s : WordSlot) (t : List ℕ) (q r : ItemParts) → word_in s t q ≡ Ok r → Fits s t q r
+unfolding natural_of
+given_fits s t q r h = grind (arith, nat_tests, bytes_eq-Decides, or_parts, ltb-false)
+
+-- a list begins in one slot alone, with its parenthesis
+pub list_begins : (s : WordSlot) (t : List ℕ) → begins_list s t ≡ true → (s ≡ Values) × (t ≡ codes "(")
+list_begins s t h = grind (arith, nat_tests, bytes_eq-Decides)
 
 -- ---- faults
-
-abbrev IsFaulty : Parse → Type 0
-IsFaulty p = (f : Fault) × (p.fault ≡ Some f)
 
 pub some_none : {A B : Type 0} (o : Option A) (x : A) → o ≡ Some x → o ≡ None → B
 some_none o x h k = cc
 
 some_is_none : {A B : Type 0} (x : A) → Some x ≡ None → B
 some_is_none x h = cc
-
-not_faulty : {B : Type 0} (p : Parse) → IsFaulty p → p.fault ≡ None → B
-not_faulty p h k = some_none p.fault h.0 h.1 k
-
--- of two outcomes, the one without a fault if the other has one
-chosen_second : (b : Bool) (x y : Parse) → IsFaulty x → (cond b x y).fault ≡ None →
-    (b ≡ false) × (cond b x y ≡ y) × (y.fault ≡ None)
-chosen_second true x y h k = not_faulty x h k
-chosen_second false x y h k = (refl, refl, k)
 
 -- ---- parts of the grammar that grow
 
@@ -71,24 +68,19 @@ all_then P [] y h k = (k, tt)
 all_then P (x ∷ xs) y h k = (h.0, all_then P xs y h.1 k)
 
 other_text : (s t : List ℕ) → bytes_eq t s ≡ false → s ≢ t
-other_text s t h e = differ (sym ((bytes_eq-Decides t s).1 (sym e)) ∙ h)
-  where
-    differ : true ≡ false → ⊥
-    differ h = cc
+other_text s t h e = grind (arith, nat_tests, bytes_eq-Decides)
 
 NamesDiffer-then : (fs : List Function) (f : Function) → NamesDiffer fs → has_name f.name fs ≡ false →
     NamesDiffer (fs ++ f ∷ [])
 NamesDiffer-then [] f h k = (tt, tt)
 NamesDiffer-then (g ∷ fs) f h k =
-    let parts = or_parts (bytes_eq f.name g.name) (has_name f.name fs) k in
-    (all_then (λ x. g.name ≢ x.name) fs f h.0 (other_text g.name f.name parts.0), NamesDiffer-then fs f h.1 parts.1)
+    grind (arith, all_then (λ x. g.name ≢ x.name) fs f h.0, other_text, NamesDiffer-then fs f h.1)
 
 AreValues-then : (k : Scalar) (ns : List ℤ) (xs : List Word) (n : ℤ) (w : Word) → AreValues k ns xs →
     value_of k w.text ≡ Some n → AreValues k (ns ++ n ∷ []) (xs ++ w ∷ [])
 AreValues-then k [] [] n w h e = (e, tt)
-AreValues-then k [] (x ∷ xs) n w h e = absurd h
-AreValues-then k (m ∷ ns) [] n w h e = absurd h
 AreValues-then k (m ∷ ns) (x ∷ xs) n w h e = (h.0, AreValues-then k ns xs n w h.1 e)
+AreValues-then k _ _ n w h e = absurd h
 
 more_room : (ns : List ℤ) (m : ℤ) → nat_lt (length ns) MOST_ELEMENTS ≡ true → length (ns ++ m ∷ []) ≤ MOST_ELEMENTS
 more_room ns m h = rw (length-append ns (m ∷ [])) (grind (arith, nat_tests))
@@ -102,16 +94,11 @@ faulty_run [] p x h = no_run p
 faulty_run (w ∷ ws) p x h = word_run p p p w ws (fault_stays w.text w.line p x h) (faulty_run ws p x h)
 
 still_none : (o : Option Fault) (p : Parse) (ws : List Word) → p.fault ≡ o → (run p ws).fault ≡ None → o ≡ None
-still_none None p ws h k = refl
-still_none (Some x) p ws h k = some_none p.fault x h (sym (ap (λ (q : Parse). q.fault) (faulty_run ws p x h)) ∙ k)
-
-faultless : (o : Option Fault) (p x : Parse) → o ≡ None → cond (is_some o) p x ≡ x
-faultless None p x h = refl
-faultless (Some f) p x h = some_none (Some f) f refl h
+still_none o p ws h k = grind (arith, nat_tests, faulty_run)
 
 taken : (p : Parse) (t : List ℕ) (l : ℕ) → p.fault ≡ None → take t l p ≡ at_place p.place t l p
 unfolding take
-taken p t l h = faultless p.fault p _ h
+taken p t l h = grind (arith, nat_tests)
 
 AreFunctions-then : (fs : List Function) (f : Function) (u v : List Word) → AreFunctions fs u →
     IsFunction f v → AreFunctions (fs ++ f ∷ []) (u ++ v)
@@ -151,8 +138,7 @@ one_more : (ifs : List OpenIf) (x : List Word) (b next : Body) (cs : List Closin
     ((z : List Word) → IsBody (length ifs) b z → IsBody (length ifs) next (x ++ z)) →
     Completes ifs b cs ws → Completes ifs next cs (x ++ ws)
 one_more [] x b next cs ws f h = f ws h
-one_more (i ∷ is) x b next cs ws f (u, m, end, v, e, hb, hm, he, hr) =
-    (x ++ u, m, end, v, ap (λ z. x ++ z) e ∙ sym (append_assoc x u (m ++ (end ∷ v))), f u hb, hm, he, hr)
+one_more (i ∷ is) x b next cs ws f (u, m, end, v, e, hb, hm, he, hr) = grind (arith, nat_tests, append_assoc)
 
 -- the words of whole functions, and of one that is open
 pub record Within (o : Open) (ws : List Word) : Type 0 where
@@ -219,22 +205,16 @@ item_closes ifs code inner v i l h k = λ b cs ws c.
     pass_on inner v ws (item_endings ifs code i l b cs)
     (h (Do i l b) cs (v ++ ws) (one_more ifs v b (Do i l b) cs ws (λ z t. (v, z, refl, k, t)) c))
 
-if_words : (u m v : List Word) (begun end : Word) →
-    (begun ∷ (u ++ (m ++ end ∷ []))) ++ v ≡ begun ∷ (u ++ (m ++ (end ∷ v)))
-if_words u m v begun end = simp append_assoc
-
 if_closes : (ifs : List OpenIf) (code : List CodeLine) (inner : List Word) (w : Word) → Closes ifs code inner →
     head_of w.text ≡ head.If → length ifs < MOST_OPEN_IFS →
     Closes (open_if w.line false ∷ ifs) (code ++ line_of code_item.If w.line ∷ []) (inner ++ w ∷ [])
 if_closes ifs code inner w h k lt = λ b cs ws (u, m, end, v, e, hb, hm, he, hr).
     let c : Closing = first_closing cs in
     let next : Body = Choice w.line b c.second c.end c.after in
-    let same : (w ∷ (u ++ (m ++ end ∷ []))) ++ v ≡ w ∷ ws = if_words u m v w end ∙ ap (λ z. w ∷ z) (sym e) in
-    let more : Completes ifs next (other_closings cs) ((w ∷ (u ++ (m ++ end ∷ []))) ++ v) =
-    one_more ifs (w ∷ (u ++ (m ++ end ∷ []))) c.after next (other_closings cs) v
-    (λ z t. (w, end, u, m, z, if_words u m z w end, lt, (k, refl), he, hb, hm, t)) hr in
+    let more = one_more ifs (w ∷ (u ++ (m ++ end ∷ []))) c.after next (other_closings cs) v
+    (λ z t. (w, end, u, m, z, simp append_assoc, lt, (k, refl), he, hb, hm, t)) hr in
     pass_on inner (w ∷ []) ws (if_endings ifs code w.line b cs)
-    (h next (other_closings cs) (w ∷ ws) (subst (Completes ifs next (other_closings cs)) same more))
+    (h next (other_closings cs) (w ∷ ws) (rw e (simp append_assoc at more)))
 
 else_closes : (is : List OpenIf) (code : List CodeLine) (inner : List Word) (l : ℕ) (w : Word) →
     Closes (open_if l false ∷ is) code inner → head_of w.text ≡ head.Else →
@@ -262,20 +242,7 @@ alone_closes is code inner l w h k = λ b cs ws t.
 -- more words of the function that is open
 grown : {o : Open} {code : List CodeLine} {ifs : List OpenIf} {ws : List Word} (v : List Word) (h : Within o ws) →
     Closes ifs code (h.inner ++ v) → Within (opened o.functions o.name o.line code ifs) (ws ++ v)
-grown v h k = record {
-  before = h.before;
-  func = h.func;
-  named = h.named;
-  inner = h.inner ++ v;
-  words_are = ap (λ z. z ++ v) h.words_are ∙ append_assoc h.before (h.func ∷ h.named ∷ h.inner) v;
-  gram = h.gram;
-  room = h.room;
-  is_func = h.is_func;
-  is_name = h.is_name;
-  good = h.good;
-  new = h.new;
-  closes = k;
-}
+grown v h k = grind (arith, nat_tests, append_assoc)
 
 within_more : {o : Open} {ws : List Word} (i : Item) (l : ℕ) (v : List Word) → Within o ws → IsInstruction i l v →
     Within (with_item o i l) (ws ++ v)
@@ -286,32 +253,23 @@ whole_instruction : {k : Keyword} {q : ItemParts} {o : Open} {first : Word} {don
     Begun k [] q o first done ws → MayBeInt (takes_int k) last →
     Within (with_item o (instruction_of k q) first.line) (ws ++ last)
 whole_instruction {k} {q} {first = first} {done = done} last h m =
-    let all = ap (λ z. z ++ last) h.words_are ∙ append_assoc h.front (first ∷ done) last in
-    let filled = subst (Fill (slots_of first.text) no_parts q) (append-nil done) (h.filled q [] (refl, refl)) in
-    rw all (within_more (instruction_of k q) first.line (first ∷ (done ++ last)) h.inside
-    (k, first, done, last, q, refl, (h.is_first, refl), refl, filled, m))
+    let filled = h.filled q [] (refl, refl) in
+    rw (h.words_are, append_assoc) (within_more (instruction_of k q) first.line (first ∷ (done ++ last)) h.inside
+    (k, first, done, last, q, refl, (h.is_first, refl), refl, rw append-nil at filled, m))
 
 going_stands : (slots : List WordSlot) {k : Keyword} {q : ItemParts} {o : Open} {first : Word} {done ws : List Word} →
     Begun k slots q o first done ws → Stands (going k first.line slots q o) ws
 unfolding going
-going_stands [] {k} {q} {o} {first} {ws = ws} h =
+going_stands [] {k} {q} {o} {first} h =
     at_inside (takes_int k) (with_item o (instruction_of k q) first.line) refl
-    (subst (Within (with_item o (instruction_of k q) first.line)) (append-nil ws) (whole_instruction [] h (inl refl)))
+    (rw append-nil at (whole_instruction [] h (inl refl)))
     (λ t w e. whole_instruction (w ∷ []) h (inr (t, w, refl, e)))
 going_stands (s ∷ slots) {k} {q} {o} {first} {done} h = at_words k s slots q o first done refl h
 
 begun_more : {k : Keyword} {s : WordSlot} {slots : List WordSlot} {before next : ItemParts} {o : Open} {first : Word}
     {done ws : List Word} (u : List Word) → Begun k (s ∷ slots) before o first done ws → FillOne s before next u →
     Begun k slots next o first (done ++ u) (ws ++ u)
-begun_more {next = next} {first = first} {done = done} u h i = record {
-  front = h.front;
-  words_are = ap (λ z. z ++ u) h.words_are ∙ append_assoc h.front (first ∷ done) u;
-  is_first = h.is_first;
-  filled =
-      λ after rest g. subst (Fill (slots_of first.text) no_parts after) (sym (append_assoc done u rest))
-      (h.filled after (u ++ rest) (next, u, rest, refl, i, g));
-  inside = h.inside;
-}
+begun_more {next = next} {first = first} {done = done} u h i = grind (arith, nat_tests, append_assoc)
 
 -- ---- one word more
 
@@ -342,24 +300,22 @@ naming_step : {fs : List Function} {u ws : List Word} (func w : Word) → ws ≡
     Stands (after_name w.text w.line (naming_at fs func.line)) (ws ++ w ∷ [])
 unfolding naming_at within
 naming_step {fs} {u} {ws} func w e k g r n =
-    let bare = chosen_second (is_parenthesis w.text || is_bad w.text) _ _ (_, refl) n in
-    let short = chosen_second (nat_lt LONGEST_NAME (length w.text)) _ _ (_, refl) bare.2 in
-    let new = chosen_second (has_name w.text fs) _ _ (_, refl) short.2 in
-    let parts = or_parts (is_parenthesis w.text) (is_bad w.text) bare.0 in
     let o = opened fs w.text func.line [] [] in
-    stands_at _ _ _ (bare.1 ∙ (short.1 ∙ new.1))
-    (at_inside false o refl (record {
+    let same : after_name w.text w.line (naming_at fs func.line) ≡ within false o = grind (arith, nat_tests) in
+    let good : IsName w.text = grind (arith, nat_tests, or_parts, ltb-false) in
+    let new : has_name w.text fs ≡ false = grind arith in
+    stands_at _ _ _ same (at_inside false o refl (record {
       before = u;
       func = func;
       named = w;
       inner = [];
-      words_are = ap (λ z. z ++ w ∷ []) e ∙ append_assoc u (func ∷ []) (w ∷ []);
+      words_are = rw e (append_assoc u (func ∷ []) (w ∷ []));
       gram = g;
       room = r;
       is_func = (k, refl);
       is_name = refl;
-      good = record { bare = parts.0; good = parts.1; short = ltb-false LONGEST_NAME (length w.text) short.0 };
-      new = new.0;
+      good = good;
+      new = new;
       closes = λ b cs v k. (b, refl, k);
     }) (no_int o (ws ++ w ∷ [])))
 
@@ -383,12 +339,10 @@ module _ (fs : List Function) (name : List ℕ) (line : ℕ) (code : List CodeLi
       let all = ap (λ z. z ++ w ∷ []) h.words_are ∙ append_assoc h.before (h.func ∷ h.named ∷ h.inner) (w ∷ []) in
       let (whole, e, g) = h.closes End [] [] refl in
       let same = ap tree_of (sym (append-nil code) ∙ e) ∙ tree_of-body_lines whole in
-      let closed : IsBody 0 (tree_of code) h.inner =
-      subst (λ b. IsBody 0 b h.inner) (sym same) (subst (IsBody 0 whole) (append-nil h.inner) g) in
+      let closed : IsBody 0 (tree_of code) h.inner = rw same (rw (append-nil h.inner) at g) in
       at_outside (fs ++ f ∷ []) refl (record {
         spelled =
-            subst (AreFunctions (fs ++ f ∷ [])) (sym all)
-            (AreFunctions-then fs f h.before v h.gram.spelled
+            rw all (AreFunctions-then fs f h.before v h.gram.spelled
             (h.func, h.named, w, h.inner, refl, h.is_func, h.is_name, h.good, closed, (t, refl)));
         differ = NamesDiffer-then fs f h.gram.differ h.new;
         few = omega (arith, length-append fs (f ∷ []), h.room);
@@ -485,9 +439,8 @@ module _ {k : Keyword} {s : WordSlot} {slots : List WordSlot} {q : ItemParts} {o
       (after_part (word_in s w.text q) k first.line w.line (going k first.line (s ∷ slots) q o)) in
       p.fault ≡ None → Stands p (ws ++ w ∷ [])
   slot_step true e n =
-      let found = list_begins s w.text e in
-      at_elements k slots q [] o first w done [] refl ws refl
-      (subst (λ z. Begun k (z ∷ slots) q o first done ws) found.0 h) found.1 tt (lit≤ tt)
+      let (same, opened) = list_begins s w.text e in
+      at_elements k slots q [] o first w done [] refl ws refl (rw same at h) opened tt (lit≤ tt)
   slot_step false e n = settled_step (word_in s w.text q) refl n
 
   in_slot_step :
@@ -513,7 +466,7 @@ elements k slots before ns o first opened =
 module _ {k : Keyword} {slots : List WordSlot} {before : ItemParts} {ns : List ℤ} {o : Open} {first opened : Word}
     {done inner ws : List Word} (h : Listed k slots before ns o first opened done inner ws) (w : Word) where
   all_words : ws ++ w ∷ [] ≡ h.front ++ opened ∷ (inner ++ w ∷ [])
-  all_words = ap (λ z. z ++ w ∷ []) h.words_are ∙ append_assoc h.front (opened ∷ inner) (w ∷ [])
+  all_words = rw h.words_are (append_assoc h.front (opened ∷ inner) (w ∷ []))
 
   room_step : (b : Bool) (m : ℤ) → value_of before.kind w.text ≡ Some m → nat_lt (length ns) MOST_ELEMENTS ≡ b →
       let q = cond b (elements k slots before (ns ++ m ∷ []) o first opened)
@@ -537,8 +490,7 @@ module _ {k : Keyword} {slots : List WordSlot} {before : ItemParts} {ns : List �
       q.fault ≡ None → Stands q (ws ++ w ∷ [])
   list_step true e n =
       let closed = (bytes_eq-Decides w.text (codes ")")).0 e in
-      subst (Stands (going k first.line slots (record before { numbers = ns }) o)) (sym all_words)
-      (going_stands slots (begun_more (opened ∷ (inner ++ w ∷ [])) h.begun
+      rw all_words (going_stands slots (begun_more (opened ∷ (inner ++ w ∷ [])) h.begun
       (inr (refl, (opened, w, inner, ns, refl, h.is_opened, closed, h.few, h.numbers, refl)))))
   list_step false e n = element_step (value_of before.kind w.text) refl n
 
@@ -549,33 +501,28 @@ module _ {k : Keyword} {slots : List WordSlot} {before : ItemParts} {ns : List �
   in_list_step n =
       let r : ItemParts = record before { numbers = ns } in
       let same = after_slot-going k first.line slots (Elements k first.line opened.line) slots r o in
-      let p : Parse = elements k slots before ns o first opened in
-      let other : Parse = one_element (value_of before.kind w.text) w.text w.line p in
-      let c = ap (λ z. cond (bytes_eq w.text (codes ")")) z other) same in
-      stands_at _ _ _ c (list_step (bytes_eq w.text (codes ")")) refl (sym (ap (λ (x : Parse). x.fault) c) ∙ n))
+      let step = list_step (bytes_eq w.text (codes ")")) refl in
+      rw same (step (rw same at n))
 
 -- one word more, if it makes no fault
 step_sound : (p : Parse) (ws : List Word) (w : Word) → Stands p ws → (take w.text w.line p).fault ≡ None →
     Stands (take w.text w.line p) (ws ++ w ∷ [])
 unfolding between naming_at within going in_elements
-step_sound p ws w (at_outside fs e g) f =
-    from_state w e refl f (λ n. outside_step (head_of w.text) w g refl n)
+step_sound p ws w (at_outside fs e g) f = from_state w e refl f (λ n. outside_step (head_of w.text) w g refl n)
 step_sound p ws w (at_name fs u func e k t g r) f = from_state w e refl f (λ n. naming_step func w k t g r n)
 step_sound p ws w (at_inside b o e h m) f = from_state w e refl f (λ n. item_step h w b m n)
 step_sound p ws w (at_words k s slots q o first done e h) f = from_state w e refl f (λ n. in_slot_step h w n)
 step_sound p ws w (at_elements k slots before ns o first opened done inner e u c h t m le) f =
-    let listed : Listed k slots before ns o first opened done inner ws =
-    record { front = u; words_are = c; begun = h; is_opened = t; numbers = m; few = le } in
-    from_state w e refl f (λ n. in_list_step listed w n)
+    from_state w e refl f (λ n. in_list_step {ns = ns}
+    (record { front = u; words_are = c; begun = h; is_opened = t; numbers = m; few = le }) w n)
 
 pub run_sound : (more : List Word) (p : Parse) (ws : List Word) → Stands p ws → (run p more).fault ≡ None →
     Stands (run p more) (ws ++ more)
 unfolding run
-run_sound [] p ws h k = subst (Stands p) (sym (append-nil ws)) h
+run_sound [] p ws h k = rw (append-nil ws) h
 run_sound (w ∷ more) p ws h k =
-    subst (Stands (run (take w.text w.line p) more)) (append_assoc ws (w ∷ []) more)
-    (run_sound more (take w.text w.line p) (ws ++ w ∷ [])
-    (step_sound p ws w h (still_none _ (take w.text w.line p) more refl k)) k)
+    let next = step_sound p ws w h (still_none _ (take w.text w.line p) more refl k) in
+    rw append_assoc at (run_sound more (take w.text w.line p) (ws ++ w ∷ []) next k)
 
 pub at_start : Stands start []
 unfolding between

@@ -8,6 +8,7 @@ use vcode_base::number_at_front;
 
 /// The digit, if a blank and a word of one digit are at the front of a text, before a blank or a control byte.
 #[inline(always)]
+#[tactic(auto, using(crate::proofs::Pieces::digit_word))]
 fn digit_ahead(text: &[u8]) -> Option<u8>
     ensures word { IfSome result (λ digit. HasWord text.now (digit ∷ [])) }
     ensures digit { IfSome result IsDigit }
@@ -46,6 +47,7 @@ pub(crate) fn digits_ahead(text: &[u8]) -> Option<(u8, u8)>
 
 /// Whether a blank and the word `INT` are at the front of a text, before a blank or a control byte.
 #[inline(always)]
+#[tactic(auto, using(crate::proofs::Pieces::int_word))]
 pub(crate) fn is_int_ahead(text: &[u8]) -> bool
     ensures { IsTrue result → HasWord text.now (codes "INT") }
 {
@@ -89,6 +91,7 @@ pub(crate) fn int_ahead(text: &[u8]) -> Option<(i64, usize)>
 
 /// The number at the front of a text, and how many bytes it has, if a blank or a control byte follows it.
 #[inline(always)]
+#[tactic(auto, using(crate::proofs::Numerals::signed_back, crate::proofs::Numerals::positive_found))]
 pub(crate) fn number_ahead(text: &[u8]) -> Option<(i64, usize)>
     ensures { IfSome result (λ found. HasNumber text.now found.0 found.1) }
 {

@@ -53,6 +53,7 @@ pub(crate) fn is_plain(byte: u8) -> bool
 
 /// How many bytes at the front of a text are parts of a word.
 #[inline(always)]
+#[tactic(auto, using(crate::proofs::Pieces::plain_steps))]
 pub(crate) fn plain_length(text: &[u8]) -> usize
     ensures { result ≡ plain_length text.now }
 {
@@ -78,6 +79,7 @@ fn is_passed(byte: u8) -> bool
 
 /// How many bytes at the front of a text change nothing in a comment.
 #[inline(always)]
+#[tactic(auto, using(crate::proofs::Pieces::passed_steps))]
 pub(crate) fn passed_length(text: &[u8]) -> usize
     ensures { result ≡ passed_length text.now }
 {

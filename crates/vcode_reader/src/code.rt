@@ -37,6 +37,7 @@ impl<A: Allocator> Model for Draft<A> {
 
 impl<A: Allocator + Clone> Draft<A> {
     /// No line.
+    #[tactic(auto, using(crate::proofs::Drafting::empty_draft))]
     pub(crate) fn new(alloc: A) -> Result<Draft<A>, AllocError>
         ensures { IfOk result (λ d. d ≡ no_lines) }
     {
@@ -50,6 +51,7 @@ impl<A: Allocator + Clone> Draft<A> {
 impl<A: Allocator> Draft<A> {
     /// Adds an instruction, which is on this line.
     #[inline(always)]
+    #[tactic(auto, using(crate::proofs::Drafting::item_draft))]
     pub(crate) fn push(&mut self, instruction: Instruction<'_>, line: u64) -> Result<(), AllocError>
         requires { FitsDraft (with_item instruction line self.old) }
         ensures { OnOk result (self.new ≡ with_item instruction.entry line self.old) }
@@ -62,6 +64,7 @@ impl<A: Allocator> Draft<A> {
     }
 
     /// An IF begins on this line.
+    #[tactic(auto, using(crate::proofs::Earlier::draft_steps))]
     pub(crate) fn begin_if(&mut self, line: u64) -> Result<(), AllocError>
         requires { FitsDraft (with_if line self.old) }
         ensures { OnOk result (self.new ≡ with_if line self.old) }
@@ -109,6 +112,7 @@ impl<A: Allocator> Draft<A> {
     }
 
     /// The `ELSE` of the innermost IF.
+    #[tactic(auto, using(crate::proofs::Earlier::draft_steps))]
     pub(crate) fn begin_else(&mut self) -> Result<(), AllocError>
         requires takes_else { takes_else self.old.ifs ≡ true }
         requires fits { FitsDraft (with_else self.old) }
@@ -125,6 +129,7 @@ impl<A: Allocator> Draft<A> {
     }
 
     /// The `ENDIF` of the innermost IF is on this line. An IF that has no `ELSE` gets one.
+    #[tactic(auto, using(crate::proofs::Earlier::draft_steps))]
     pub(crate) fn end_if(&mut self, line: u64) -> Result<(), AllocError>
         requires { FitsDraft (with_endif line self.old) }
         ensures { OnOk result (self.new ≡ with_endif line self.old) }
@@ -136,6 +141,7 @@ impl<A: Allocator> Draft<A> {
     }
 
     /// The lines.
+    #[tactic(auto, using(crate::proofs::Drafting::whole_draft))]
     pub(crate) fn into_lines(self) -> GrowingLines<A>
         ensures same { result ≡ self.lines }
         ensures body { is_open self.ifs ≡ false → AreBodyLines result }

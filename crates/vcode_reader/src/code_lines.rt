@@ -90,6 +90,7 @@ impl<A: Allocator + Clone> GrowingLines<A> {
 impl<A: Allocator> GrowingLines<A> {
     /// Adds a line at the end. If memory is refused, nothing changes.
     #[inline(always)]
+    #[tactic(auto, using(crate::proofs::Earlier::push_steps))]
     pub(crate) fn push(&mut self, line: CodeLine<'_>) -> Result<(), AllocError>
         requires { FitsPools (self.old ++ line ∷ []) }
         ensures pushed { OnOk result (self.new ≡ self.old ++ line.entry ∷ []) }
@@ -118,6 +119,7 @@ impl<A: Allocator> GrowingLines<A> {
     }
 
     /// The lines with their targets, in no more memory than they need.
+    #[tactic(auto, using(crate::proofs::Pooling::shown_length, crate::proofs::Linking::now_shown))]
     pub(crate) fn into_lines(self, alloc: A) -> Result<CodeLines<A>, AllocError>
         requires { length self < 2 ^ 32 }
         ensures { IfOk result (λ lines. lines ≡ self) }
@@ -184,6 +186,7 @@ impl<A: Allocator> Model for CodeLines<A> {
 
 impl<A: Allocator> CodeLines<A> {
     /// How many lines there are.
+    #[tactic(auto, using(crate::proofs::Pooling::shown_length))]
     pub(crate) fn len(&self) -> usize
         ensures { result ≡ length self.now }
     {
@@ -192,6 +195,7 @@ impl<A: Allocator> CodeLines<A> {
 
     /// The line at a place, counted from 0, if there is one.
     #[inline(always)]
+    #[tactic(auto, using(crate::proofs::Pooling::not_got, crate::proofs::Pooling::no_line_there))]
     pub(crate) fn get(&self, place: usize) -> Option<CodeLine<'_>>
         ensures { result ≡ slice_get self.now place }
     {

@@ -194,7 +194,7 @@ fn of_more(word: &[u8]) -> Head
 }
 
 /// What a word begins.
-#[tactic(auto, using(crate::proofs::Spelling::no_word, crate::proofs::Spelling::among_length))]
+#[tactic(auto, using(crate::proofs::Spelling::head_rows))]
 pub(crate) fn head_of(word: &[u8]) -> Head
     ensures { result ≡ head_of word.now }
 {

@@ -102,7 +102,7 @@ impl<A: Allocator> Linker<'_, A> {
 }
 
 /// What [`Linker::callees`] finds for each function.
-#[tactic(auto, unfolding(crate::specs::Programs::held_callees))]
+#[tactic(auto, unfolding(crate::specs::Programs::held_callees), using(crate::proofs::Callees::callees_all))]
 pub(crate) fn callees_of<A: Allocator + Clone>(
     alloc: A,
     functions: &[Function<A>],

@@ -383,6 +383,7 @@ impl<A: Allocator + Clone> Parser<A> {
         Ok(())
     }
 
+    #[tactic(auto, using(crate::proofs::Earlier::last_fits))]
     fn end_function(&mut self, line: u64) -> Result<(), AllocError>
         requires closed { is_open self.old.draft.ifs ≡ false }
         requires fits { FitsParse (after_return line self.old) }
@@ -517,6 +518,7 @@ impl<A: Allocator + Clone> Parser<A> {
 
     /// Takes the words of a motion of the stack, whose counts are these digits.
     #[inline(always)]
+    #[tactic(auto, using(crate::proofs::Numerals::of_digits))]
     pub(crate) fn take_move(
         &mut self,
         motion: StackMove,
@@ -557,6 +559,7 @@ impl<A: Allocator + Clone> Parser<A> {
 
     /// Takes the words of an instruction of one kind, which is `INT`.
     #[inline(always)]
+    #[tactic(auto, using(crate::proofs::Numerals::of_int))]
     pub(crate) fn take_of_int(&mut self, keyword: Keyword, line: u64) -> Result<(), AllocError>
         requires good { self.old.fault ≡ None }
         requires kind { takes_kind keyword ≡ true }
@@ -605,6 +608,7 @@ impl<A: Allocator + Clone> Parser<A> {
 
     /// Takes the next word, which is this number on this line.
     #[inline(always)]
+    #[tactic(auto, using(crate::proofs::Numerals::number_steps))]
     pub(crate) fn take_number(&mut self, number: i64, line: u64) -> Result<(), AllocError>
         requires { awaits_number self.old.place self.old.parts.kind ≡ true }
         ensures taken { OnOk result ((word : List ℕ) → number_of word ≡ Some number → self.new

@@ -52,6 +52,7 @@ impl<A: Allocator> Model for Function<A> {
 
 impl<A: Allocator> Function<A> {
     /// The function of these lines and a `RET` at line `ret` after them.
+    #[tactic(auto, using(crate::proofs::Earlier::function_lines))]
     pub(crate) fn new(
         alloc: A,
         name: FunctionName<A>,
@@ -209,6 +210,7 @@ impl<A: Allocator> Program<A> {
     /// The place, among the program's functions, of the function that the CALL at this place of that
     /// function names: of the first, if several have the name. None if no function has the name,
     /// at any line but a CALL, and if there is no such line.
+    #[tactic(auto, using(crate::proofs::Pooling::not_got, crate::proofs::Callees::no_function))]
     pub fn callee(&self, function: usize, place: usize) -> Option<usize>
         ensures { result ≡ callee_at self.now.functions function place }
     {

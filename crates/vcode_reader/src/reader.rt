@@ -90,6 +90,7 @@ impl<A: Allocator + Clone> Scanner<A> {
         self.parser.take(&[byte], self.line)
     }
 
+    #[tactic(auto, using(crate::proofs::Earlier::lone_steps))]
     fn in_text(&mut self, class: Class, byte: u8) -> Result<(), AllocError>
         requires room { class ≡ LineFeed → self.old.line + 1 < 2 ^ 64 }
         requires fits { FitsParse (in_text take class byte self.old).found }
@@ -187,6 +188,7 @@ impl<A: Allocator + Clone> Scanner<A> {
 
     /// Begins an instruction after its first word, and takes no other.
     #[inline(always)]
+    #[tactic(auto, using(crate::proofs::Earlier::text_before))]
     fn begin<'p>(&mut self, keyword: Keyword, text: &'p [u8]) -> Result<&'p [u8], AllocError>
         requires { FitsText (begun keyword self.old) text.now }
         ensures same { IfOk result (λ rest.
@@ -320,6 +322,7 @@ impl<A: Allocator + Clone> Scanner<A> {
     /// Passes over one blank or LF at the front of a text, if no word and no comment is open, and answers what is after
     /// it.
     #[inline(always)]
+    #[tactic(auto, using(crate::proofs::Pieces::separator_steps))]
     fn pass_separator<'p>(&mut self, text: &'p [u8]) -> &'p [u8]
         requires { self.old.line + line_feeds text.now < 2 ^ 64 }
         ensures same { scan_all take self.old text.now ≡ scan_all take self.new result.now }
@@ -351,6 +354,7 @@ impl<A: Allocator + Clone> Scanner<A> {
     /// Passes over the bytes at the front of a text that change nothing, if a comment is open, and answers what is
     /// after them.
     #[inline(always)]
+    #[tactic(auto, using(crate::proofs::Pieces::comment_steps))]
     fn pass_comment<'p>(&self, text: &'p [u8]) -> &'p [u8]
         ensures same { scan_all take self.now text.now ≡ scan_all take self.now result.now }
         ensures within { length result.now ≤ length text.now }
@@ -365,6 +369,7 @@ impl<A: Allocator + Clone> Scanner<A> {
     /// Takes the plain bytes at the front of a text, with the separator that ends them, or else its first byte, with
     /// those that change nothing after it in a comment, and answers what is after them.
     #[inline(always)]
+    #[tactic(auto, using(crate::proofs::Pieces::later_same, std::proofs::lemmas::List::drop_more))]
     fn front<'p>(&mut self, text: &'p [u8]) -> Result<&'p [u8], AllocError>
         requires some { 1 ≤ length text.now }
         requires room { self.old.line + line_feeds text.now < 2 ^ 64 }
@@ -385,6 +390,7 @@ impl<A: Allocator + Clone> Scanner<A> {
         Ok(self.pass_comment(rest))
     }
 
+    #[tactic(auto, using(crate::proofs::Pieces::none_left, crate::proofs::Pieces::no_bytes))]
     fn bytes(&mut self, piece: &[u8]) -> Result<(), AllocError>
         requires room { self.old.line + line_feeds piece.now < 2 ^ 64 }
         requires fits { FitsText self.old piece.now }
@@ -465,6 +471,7 @@ impl<A: Allocator + Clone> CodeReader<A> {
     /// # Errors
     ///
     /// [`AllocError`] if memory is refused, and from then on at each piece.
+    #[tactic(auto, using(crate::proofs::Fed::fed_line))]
     pub fn feed(&mut self, piece: &[u8]) -> Result<(), AllocError>
         requires line { self.old.failed ≡ false → self.old.scan.line + line_feeds piece.now < 2 ^ 64 }
         requires size { self.old.failed ≡ false → self.old.size + length piece.now ≤ MOST_CODE_BYTES }
@@ -489,6 +496,7 @@ impl<A: Allocator + Clone> CodeReader<A> {
     }
 
     /// The first fault of the text with its line, if the pieces so far have one. No further piece changes it.
+    #[tactic(auto, using(crate::proofs::Fed::longer_text))]
     pub fn fault(&self) -> Option<(CodeFault, u64)>
         ensures found { result ≡ self.now.scan.found.fault }
         ensures stays { (fault : Fault) (bytes more : List ℕ) → result ≡ Some fault → HasCome self.now bytes

@@ -1,13 +1,9 @@
-use Rattle.std.proofs.Common.{◌≡◌, ◌+◌, ◌-◌, ◌<◌, length, length-set, refl, subst, arith}
-use Rattle.vcode_reader.proofs.Linking.{AreSetFrom, none_set, more_set, all_set}
+use Rattle.std.proofs.Common.{rules, ◌≡◌, ◌+◌, ◌-◌, ◌<◌, length, length-set, refl, arith}
+use Rattle.vcode_reader.proofs.Linking.{none_set, more_set, all_set}
 use Rattle.vcode_reader.proofs.code_lines.set_targets.Goals as goal
 
 pub loop-place-init : goal.loop-place-init
-loop-place-init g c = record {
-  within = omega arith;
-  done = λ first ls ns. none_set _ c.args.lines.now c.args.lines.now c.new-waits.result first ls ns
-      (omega arith) refl c.new-waits.ensures;
-}
+loop-place-init g c = search (rules, none_set)
 
 pub loop-place-preserved : goal.loop-place-preserved
 loop-place-preserved g c =
@@ -16,16 +12,12 @@ loop-place-preserved g c =
     let within : here < length c.loop-place.lines = omega arith in
     record {
       within = omega (arith, length-set c.loop-place.lines here c.set_target.new.line);
-      done = λ first ls ns. more_set here c.args.lines.now c.loop-place.lines c.loop-place.waits first ls ns _
-          c.set_target.new.line
-          (subst (λ z. AreSetFrom z c.args.lines.now c.loop-place.lines c.loop-place.waits first ls ns) next
-          (c.loop-place.invariant.done first ls ns))
-          within c.loop-place.auto.lines c.in_ok-set_target.ensures.line _ _ refl c.in_ok-set_target.ensures.waits;
+      done = λ first ls ns.
+          more_set here _ _ _ first ls ns _ _ (rw next at (c.loop-place.invariant.done first ls ns)) within
+          c.loop-place.auto.lines c.in_ok-set_target.ensures.line _ _ refl c.in_ok-set_target.ensures.waits;
     }
 
 pub returns : goal.returns
 returns g c = λ first ls ns.
     let none : c.loop-place.place ≡ 0 = omega arith in
-    all_set c.args.lines.now c.loop-place.lines c.loop-place.waits first ls ns
-    (subst (λ z. AreSetFrom z c.args.lines.now c.loop-place.lines c.loop-place.waits first ls ns) none
-    (c.loop-place.invariant.done first ls ns))
+    all_set _ _ c.loop-place.waits first ls ns (rw none at (c.loop-place.invariant.done first ls ns))

@@ -1,11 +1,10 @@
+use Rattle.std.proofs.Common.{arith, rules}
+use Rattle.std.proofs.lemmas.Grind.{common_steps}
 use Rattle.vcode_reader.proofs.Pooling.{none_pooled, none_shown}
 use Rattle.vcode_reader.proofs.code_lines.GrowingLines.clear.Goals as goal
 
 pub invariant_of-self : goal.invariant_of-self
-invariant_of-self g c =
-    none_pooled c.clear.new.self.items c.clear-2.new.self.items c.clear-3.new.self.items c.clear.ensures.items
-    c.clear-2.ensures.items c.clear-3.ensures.items
+invariant_of-self g c = search (rules, none_pooled)
 
 pub returns : goal.returns
-returns g c =
-    none_shown 0 c.clear.new.self.items c.clear-2.new.self.items c.clear-3.new.self.items c.clear.ensures.items
+returns g c = grind (arith, common_steps, none_shown)

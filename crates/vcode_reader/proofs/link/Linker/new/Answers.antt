@@ -1,4 +1,5 @@
-use Rattle.std.proofs.Common.{◌≡◌, ◌+◌, ◌-◌, ◌∙◌, sym, subst, arith, rules}
+use Rattle.std.proofs.lemmas.Grind.{common_steps}
+use Rattle.std.proofs.Common.{◌≡◌, ◌+◌, ◌-◌, sym, subst, arith}
 use Rattle.std.proofs.lemmas.Iterator.Adapters.{position_from-zero}
 use Rattle.vcode_reader.proofs.Callees.{Finds, finds_more}
 use Rattle.vcode_reader.proofs.link.Linker.new.Goals as goal
@@ -16,11 +17,4 @@ loop-place-preserved g c =
     }
 
 pub invariant_of-result : goal.invariant_of-result
-invariant_of-result g c =
-    let none : c.loop-place.place ≡ 0 = omega arith in
-    record {
-      past = search rules;
-      found = λ name.
-          subst (λ z. Finds c.args.functions.now z c.loop-place.places) none c.loop-place.invariant.found name
-          ∙ sym (position_from-zero _ c.args.functions.now);
-    }
+invariant_of-result g c = grind (arith, common_steps, position_from-zero)

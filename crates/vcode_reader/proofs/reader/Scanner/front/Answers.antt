@@ -1,8 +1,7 @@
-use Rattle.std.proofs.Common.{◌∙◌}
 use Rattle.std.proofs.lemmas.List.{drop_more}
 use Rattle.vcode_reader.specs.Parsing.{take}
 use Rattle.vcode_reader.proofs.Earlier.{first_byte_fits}
-use Rattle.vcode_reader.proofs.Lines.{later_same, next_room, same_room}
+use Rattle.vcode_reader.proofs.Pieces.{next_room, same_room}
 use Rattle.vcode_reader.proofs.reader.Scanner.front.Goals as goal
 
 pub pass_separator-requires : goal.pass_separator-requires
@@ -16,8 +15,3 @@ byte-requires-clause-fits g c =
 pub byte-requires-clause-room : goal.byte-requires-clause-room
 byte-requires-clause-room g c =
     next_room c.args.self.now _ _ _ _ (drop_more c.args.text.now 0 0 c.requires.some) c.requires.room
-
-pub returns-clause-same : goal.returns-clause-same
-returns-clause-same g c =
-    rw c.split_at.ensures.back (later_same take c.args.self.now c.byte.new.self _ _ _
-    (drop_more c.args.text.now 0 0 c.requires.some) c.in_ok-byte.ensures) ∙ c.pass_comment.ensures.same

@@ -6,9 +6,8 @@ use Rattle.vcode_reader.specs.Ahead.{HasNumber}
 use Rattle.vcode_reader.specs.Numbers.{number_of}
 use Rattle.vcode_reader.specs.Parsing.{Parse, take}
 use Rattle.vcode_reader.specs.Scan.{Scan, scan_all}
-use Rattle.vcode_reader.proofs.Lines.{same_room}
+use Rattle.vcode_reader.proofs.Pieces.{same_room, no_bytes}
 use Rattle.vcode_reader.proofs.Numerals.{number_passed}
-use Rattle.vcode_reader.proofs.Pieces.{no_bytes}
 use Rattle.vcode_reader.proofs.reader.Scanner.next_number.Goals as goal
 
 passed : {s now : Scan Parse} {n : ℤ} {len open_len : ℕ} {rest : List ℕ} {next : Parse} (text : List ℕ) → s ≡ now →

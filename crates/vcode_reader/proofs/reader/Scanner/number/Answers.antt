@@ -1,5 +1,5 @@
 use Rattle.vcode_reader.specs.Parsing.{take}
-use Rattle.vcode_reader.proofs.Lines.{same_room}
+use Rattle.vcode_reader.proofs.Pieces.{same_room}
 use Rattle.vcode_reader.proofs.reader.Scanner.number.Goals as goal
 
 pub numbers-requires-clause-room : goal.numbers-requires-clause-room

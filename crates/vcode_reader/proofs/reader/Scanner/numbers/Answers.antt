@@ -1,13 +1,12 @@
-use Rattle.std.proofs.Common.{◌∙◌, ◌<◌, arith, length}
+use Rattle.std.proofs.Common.{◌∙◌, arith}
 use Rattle.vcode_reader.specs.Parsing.{take}
-use Rattle.vcode_reader.proofs.Lines.{same_room}
+use Rattle.vcode_reader.proofs.Pieces.{same_room}
 use Rattle.vcode_reader.proofs.reader.Scanner.numbers.Goals as goal
 
 pub numbers-preserved : goal.numbers-preserved
 numbers-preserved g c =
     let same = (rw c.in-Some.is at c.in_ok-behind.ensures.same) in
-    let shorter : length c.in-Some.behind.now < length c.numbers.rest.now =
-    (rw c.in-Some.is at c.in_ok-behind.ensures.shorter) in
+    let shorter = (rw c.in-Some.is at c.in_ok-behind.ensures.shorter) in
     record {
       text = c.next_number.ensures.text;
       number = c.next_number.ensures.number;
