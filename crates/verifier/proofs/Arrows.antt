@@ -1,9 +1,10 @@
 -- The kinds that each function of a well kinded program takes and gives.
-use Rattle.std.proofs.Common.{◌≡◌, ◌∙◌, ℕ, ◌+◌, ◌<◌, Option, Some, None, refl, sym, ap, subst}
-use Rattle.std.proofs.Common.{List, [], ◌∷◌, ◌++◌, length, take, get_or, add-one}
-use Rattle.std.specs.Prelude.{map, All, IsSome, MatchOption}
+use Rattle.std.proofs.Common.{◌≡◌, ◌∙◌, ℕ, ◌+◌, ◌<◌, Option, Some, None, sym, ap, subst, arith, List, [], ◌∷◌, ◌++◌}
+use Rattle.std.proofs.Common.{length, take, get_or}
+use Rattle.std.specs.Prelude.{All, IsSome, MatchOption}
 use Rattle.std.proofs.Math.Seq.{take-suc}
 use Rattle.std.proofs.lemmas.List.{map-append}
+use Rattle.std.proofs.lemmas.Grind.{common_steps}
 use Rattle.std.proofs.lemmas.List.Elements.{All-get_or}
 use Rattle.vcode_reader.specs.Trees.{Function, Program}
 use Rattle.signatures.specs.Signatures.{FunctionType, Signature, kinds_of}
@@ -24,36 +25,17 @@ arrow_at signatures program fs i f h same lt is =
 pub is_known : {T : Type 0} (o : Option T) (P : T → Type 0) (known : Option FunctionType)
     → MatchOption o (known ≡ None) P
     → ((arrow : FunctionType) × (known ≡ Some arrow)) → IsSome o
-is_known None P known h k = absurd (let e : Some k.0 ≡ None = sym k.1 ∙ h in cc)
-is_known (Some x) P known h k = refl
+is_known o P known h k = grind arith
 
 -- and if there is an answer, it is the signature
 pub known_arrow : {T : Type 0} (o : Option T) (P : T → Type 0) (N : Type 0) (x : T) → MatchOption o N P → o ≡ Some x
     → P x
-known_arrow None P N x h e = absurd (cc)
-known_arrow (Some y) P N x h e = let same : y ≡ x = cc in subst P same h
+known_arrow o P N x h e = rw e at h
 
 -- the arrows of the functions before a place, and the next one
-one_arrow_more : (signatures : List Signature) (fs : List Function) (i : ℕ) (f : Function)
-    (arrows new : List FunctionType) (arrow : FunctionType)
-    → i < length fs → f ≡ get_or fs i f → AreArrows signatures (take i fs) arrows
-    → kinds_of signatures f.name ≡ Some arrow → new ≡ arrows ++ arrow ∷ [] → AreArrows signatures (take (i + 1) fs) new
-one_arrow_more signatures fs i f arrows new arrow lt is before here e =
-    let row : Function → Option FunctionType = λ g. kinds_of signatures g.name in
-    let front : take (i + 1) fs ≡ take i fs ++ f ∷ [] =
-    ap (λ n. take n fs) (add-one i) ∙ (take-suc fs i f lt ∙ ap (λ g. take i fs ++ g ∷ []) (sym is)) in
-    ap (map row) front
-    ∙ (map-append row (take i fs) (f ∷ [])
-    ∙ ((λ p. before p ++ here p ∷ [])
-    ∙ (sym (map-append (λ a. Some a) arrows (arrow ∷ [])) ∙ ap (map (λ a. Some a)) (sym e))))
-
--- the same, of a program's functions as a slice gives them
 pub next_arrow : (signatures : List Signature) (program : Program) (fs : List Function) (i : ℕ) (f : Function)
     (arrows new : List FunctionType) (arrow : FunctionType) → fs ≡ program.functions → i < length fs → f ≡ get_or fs i f
     → AreArrows signatures (take i program.functions) arrows → kinds_of signatures f.name ≡ Some arrow
     → new ≡ arrows ++ arrow ∷ [] → AreArrows signatures (take (i + 1) program.functions) new
 next_arrow signatures program fs i f arrows new arrow same lt is before here e =
-    let so_far : AreArrows signatures (take i fs) arrows =
-    subst (λ gs. AreArrows signatures (take i gs) arrows) (sym same) before in
-    subst (λ gs. AreArrows signatures (take (i + 1) gs) new) same
-    (one_arrow_more signatures fs i f arrows new arrow lt is so_far here e)
+    grind (arith, common_steps, map-append, take-suc)

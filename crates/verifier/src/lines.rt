@@ -18,7 +18,7 @@ use vcode_base::{Instr, Instruction, Kind, StackMove};
 use vcode_reader::{CodeItem, CodeLine, Function};
 
 /// An instruction that takes and gives these entries.
-#[tactic(auto, unfolding(crate::specs::First::stack_after_arrow))]
+#[tactic(auto, using(crate::proofs::Keeping::same_tops), unfolding(crate::specs::First::stack_after_arrow))]
 #[inline(always)]
 fn replace<A: Allocator + Clone>(
     stack: &mut KindStack<A>,
@@ -45,6 +45,7 @@ fn replace<A: Allocator + Clone>(
 }
 
 /// Moves the entries above the first `below`, of which the first `lower` are the lower ones.
+#[tactic(auto, using(crate::proofs::Keeping::copied))]
 #[inline(always)]
 fn place<A: Allocator + Clone>(
     stack: &mut KindStack<A>,
@@ -197,6 +198,7 @@ fn check_line<A: Allocator + Clone>(
 }
 
 /// The entries after the lines before the last of the function at this place of the program.
+#[tactic(auto, using(crate::proofs::Functions::code_lines))]
 pub(crate) fn check_lines<A: Allocator + Clone>(
     stack: &mut KindStack<A>,
     scope: &Scope<A>,

@@ -51,6 +51,7 @@ impl<A: Allocator + Clone> KindStack<A> {
     }
 
     /// Whether these are the entries.
+    #[tactic(auto, using(crate::proofs::SameKinds::same_kinds))]
     pub(crate) fn equals(&self, kinds: &[Kind]) -> bool
         ensures { result ≡ are_same_kinds self.now.kinds kinds.now }
     {
@@ -58,6 +59,7 @@ impl<A: Allocator + Clone> KindStack<A> {
     }
 
     /// Puts entries on top.
+    #[tactic(auto, using(crate::proofs::Keeping::on_top))]
     #[inline(always)]
     pub(crate) fn extend(&mut self, kinds: &[Kind]) -> Result<(), AllocError>
         ensures { OnOk result (self.new ≡ record self.old { kinds = self.old.kinds ++ kinds.now }) }
@@ -67,6 +69,7 @@ impl<A: Allocator + Clone> KindStack<A> {
     }
 
     /// Whether the last entries are these. If they are, others take their place.
+    #[tactic(auto, using(crate::proofs::SameKinds::same_kinds))]
     #[inline(always)]
     pub(crate) fn replace_end(
         &mut self,
@@ -85,6 +88,7 @@ impl<A: Allocator + Clone> KindStack<A> {
     }
 
     /// Puts `count` entries, from this place on, on top once more.
+    #[tactic(auto, using(crate::proofs::Keeping::on_top))]
     #[inline(always)]
     pub(crate) fn repeat(&mut self, from: usize, count: usize) -> Result<(), AllocError>
         requires { from + count ≤ length self.old.kinds }
@@ -147,6 +151,7 @@ impl<A: Allocator + Clone> KindStack<A> {
     }
 
     /// Forgets the entries that were kept last, and reports whether they are those that there are.
+    #[tactic(auto, using(crate::proofs::SameKinds::same_kinds))]
     #[inline(never)]
     pub(crate) fn forget(&mut self) -> Result<bool, AllocError>
         ensures same { IfOk result (λ same. same ≡ is_kept_last self.old.kinds self.old.kept) }

@@ -189,6 +189,7 @@ fn is_main_with_operands<A: Allocator>(function: &Function<A>, takes: &[Kind]) -
 }
 
 /// A body that begins with these entries, and the entries at its `RET`.
+#[tactic(auto, using(crate::proofs::Functions::walk_is))]
 fn check_body<A: Allocator + Clone>(
     alloc: A,
     scope: &Scope<A>,
@@ -209,6 +210,7 @@ fn check_body<A: Allocator + Clone>(
 }
 
 /// The line of its `RET`.
+#[tactic(auto, using(crate::proofs::Functions::code_lines))]
 fn return_line<A: Allocator>(function: &Function<A>) -> u64
     ensures { result ≡ function.now.ret }
 {
