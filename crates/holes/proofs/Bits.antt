@@ -1,12 +1,11 @@
 -- The words that bits tell, and the bits of a bitmap after its operations.
-use Rattle.std.proofs.Common.{◌≡◌, ℕ, ◌+◌, ◌-◌, ◌*◌, ◌/◌, ◌%◌, ◌^◌, ◌<◌, ◌≤◌, Bool, true, false, eqb, List}
-use Rattle.std.proofs.Common.{◌∷◌, ◌++◌, length, refl, sym, ◌⊎◌, ◌∙◌, ap, inl, inr, arith, zero, suc}
+use Rattle.std.proofs.Common.{◌≡◌, ℕ, ◌+◌, ◌-◌, ◌*◌, ◌/◌, ◌%◌, ◌^◌, ◌<◌, ◌≤◌, Bool, true, false, ◌++◌, length}
+use Rattle.std.proofs.Common.{refl, sym, ◌⊎◌, ◌∙◌, arith, zero, suc}
 use Rattle.std.specs.Prelude.{replicate, bit_and, bit_or}
 use Rattle.std.specs.Int.{bit_at, bit_not, w64}
 use Rattle.std.proofs.lemmas.List.{length-replicate, get_or-replicate, ext_get_or}
-use Rattle.std.proofs.lemmas.Nat.Bits.{bit_at_and, bit_at_or, bit_at_ones, bit_at_ones_above}
-use Rattle.std.proofs.lemmas.Nat.Bits.{bit_at_mask_inside, bit_at_mask_below, ones_shl, ones_shr, bit_at_not}
-use Rattle.std.proofs.lemmas.Nat.Bits.{bit_at-lt}
+use Rattle.std.proofs.lemmas.Nat.Bits.{bit_at_and, bit_at_or, bit_at_ones, bit_at_ones_above, bit_at_mask_inside}
+use Rattle.std.proofs.lemmas.Nat.Bits.{bit_at_mask_below, ones_shl, ones_shr, bit_at_not, bit_at-lt}
 use Rattle.std.proofs.lemmas.Nat.{and_le_r, shr_le}
 use Rattle.holes.specs.FreeWords.{is_free}
 use Rattle.holes.specs.Tree.{is_set, words_from}
@@ -25,11 +24,7 @@ word_in each place (suc len) (suc word) lt = grind (arith, word_in each (place +
 pub same_words_from : (first second : ℕ → Bool) (a b len : ℕ) →
     ((word : ℕ) → word < len → first (a + word) ≡ second (b + word)) →
     words_from first a len ≡ words_from second b len
-same_words_from first second a b len same =
-    ext_get_or false (words_from first a len) (words_from second b len)
-    (length-words first a len ∙ sym (length-words second b len))
-    (λ word lt. let within : word < len = omega (arith, length-words first a len) in
-    word_in first a len word within ∙ (same word within ∙ sym (word_in second b len word within)))
+same_words_from first second a b len same = grind (arith, ext_get_or false, length-words, word_in)
 
 pub words_from-add : (each : ℕ → Bool) (place m n : ℕ) →
     words_from each place (m + n) ≡ words_from each place m ++ words_from each (place + m) n
@@ -37,9 +32,7 @@ words_from-add each place zero n = grind arith
 words_from-add each place (suc m) n =
     let a : suc m + n ≡ suc (m + n) = omega arith in
     let b : (place + 1) + m ≡ place + suc m = omega arith in
-    ap (words_from each place) a
-    ∙ (ap (λ (rest : List Bool). each place ∷ rest) (words_from-add each (place + 1) m n)
-    ∙ ap (λ p. each place ∷ (words_from each (place + 1) m ++ words_from each p n)) b)
+    cc (words_from-add each (place + 1) m n)
 
 pub all_words : (each : ℕ → Bool) (place len : ℕ) (value : Bool) →
     ((word : ℕ) → word < len → each (place + word) ≡ value) → words_from each place len ≡ replicate len value
@@ -66,29 +59,13 @@ mask_inside from to word some within ge lt =
 
 mask_outside : (from to word : ℕ) → from < to → to ≤ 64 → (word < from) ⊎ (to ≤ word) → bit_at (mask from to) word ≡ 0
 mask_outside from to word some within out =
-    let back : 64 - (64 - to) ≡ to = omega arith in
     let both = bit_at_and ((2 ^ 64 - 1) * 2 ^ from % 2 ^ 64) ((2 ^ 64 - 1) / 2 ^ (64 - to)) word in
-    elim out [
-      | inl below ↦ omega (
-        arith,
-        both,
-        ap (λ n. bit_at n word) (ones_shl 64 from (omega arith)),
-        bit_at_mask_below from 64 word below,
-      )
-      | inr above ↦ omega (
-        arith,
-        both,
-        ap (λ n. bit_at n word) (ones_shr 64 (64 - to) (omega arith)),
-        ap (λ n. bit_at (2 ^ n - 1) word) back,
-        bit_at_ones_above to word above,
-      )
-    ]
+    let high = ones_shl 64 from (omega arith) in
+    let low = rw (let e : 64 - (64 - to) ≡ to = omega arith in e) at (ones_shr 64 (64 - to) (omega arith)) in
+    grind (arith, bit_at_mask_below from 64 word, bit_at_ones_above to word)
 
 mask-lt : (from to : ℕ) → mask from to < 2 ^ 64
 mask-lt from to = omega (arith, and_le_r, shr_le)
-
-same_set : (a b word : ℕ) → bit_at a word ≡ bit_at b word → is_set a word ≡ is_set b word
-same_set a b word e = ap (λ n. eqb n 1) e
 
 pub or_mask_inside : (bits from to word : ℕ) → from < to → to ≤ 64 → from ≤ word → word < to →
     is_set (bit_or bits (mask from to)) word ≡ true
@@ -96,28 +73,20 @@ or_mask_inside bits from to word some within ge lt = grind (arith, mask, bit_at_
 
 pub or_mask_outside : (bits from to word : ℕ) → from < to → to ≤ 64 → (word < from) ⊎ (to ≤ word) →
     is_set (bit_or bits (mask from to)) word ≡ is_set bits word
-or_mask_outside bits from to word some within out = grind (arith, same_set, mask, bit_at_or, mask_outside)
+or_mask_outside bits from to word some within out = grind (arith, mask, bit_at_or, mask_outside)
 
 pub and_mask_inside : (bits from to word : ℕ) → from < to → to ≤ 64 → from ≤ word → word < to →
     is_set (bit_and bits (bit_not w64 (mask from to))) word ≡ false
 and_mask_inside bits from to word some within ge lt =
-    grind (
-      arith,
-      mask from to,
-      bit_at_and bits (bit_not w64 (mask from to)) word,
-      bit_at_not w64 (mask from to) word (mask-lt from to) (omega arith),
-      mask-lt from to,
-      mask_inside from to word some within ge lt,
-    )
+    grind (arith, mask, bit_at_and, bit_at_not w64 (mask from to), mask-lt, mask_inside)
 
 pub and_mask_outside : (bits from to word : ℕ) → from < to → to ≤ 64 → word < 64 → (word < from) ⊎ (to ≤ word) →
     is_set (bit_and bits (bit_not w64 (mask from to))) word ≡ is_set bits word
 and_mask_outside bits from to word some within lt out =
-    same_set (bit_and bits (bit_not w64 (mask from to))) bits word
-    (omega (
-      arith,
-      bit_at_and bits (bit_not w64 (mask from to)) word,
-      bit_at_not w64 (mask from to) word (mask-lt from to) lt,
-      mask_outside from to word some within out,
-      bit_at-lt bits word,
-    ))
+    grind (arith, mask, bit_at_and, bit_at_not w64 (mask from to), mask-lt, mask_outside, bit_at-lt)
+
+-- a bitmap with a range free or not free
+pub ruleset masks = (or_mask_inside, or_mask_outside, and_mask_inside, and_mask_outside)
+
+-- for functions, whose attributes name no lemma with a dash
+pub ruleset lengths = (length-words)

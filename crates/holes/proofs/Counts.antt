@@ -1,8 +1,7 @@
 -- How many holes there are after a range was taken or given, by the words right before and right after it.
 use Rattle.std.proofs.Common.{◌≡◌, ℕ, ◌+◌, ◌-◌, ◌<◌, ◌≤◌, Bool, true, false, not, ◌&&◌, cond, eqb, List, [], ◌∷◌, ◌++◌}
-use Rattle.std.proofs.Common.{length, take, drop, refl, arith, zero, suc}
+use Rattle.std.proofs.Common.{length, take, refl, arith, zero, suc}
 use Rattle.std.specs.Prelude.{replicate}
-use Rattle.std.proofs.lemmas.Bool.{ne_eqb}
 use Rattle.std.proofs.lemmas.List.{get_or-drop}
 use Rattle.std.specs.Int.{from_bool}
 use Rattle.holes.specs.Tree.{words_from}
@@ -13,12 +12,7 @@ use Rattle.holes.proofs.Ranges.{last_of, hole_count_after-append, hole_count_aft
 count_behind : (free : List Bool) →
     hole_count_after false free ≡ hole_count_after true free + cond (is_free free 0) 1 0
 count_behind [] = refl
-count_behind (false ∷ free) = omega arith
-count_behind (true ∷ free) = omega arith
-
-count_free : (before : Bool) (n : ℕ) → hole_count_after before (replicate (suc n) true) ≡ cond before 0 1
-count_free true n = hole_count_after_true-true n
-count_free false n = grind (arith, hole_count_after_true-true)
+count_behind (word ∷ free) = grind arith
 
 last_same : (before value : Bool) (n : ℕ) → last_of before (replicate (suc n) value) ≡ value
 last_same before value zero = refl
@@ -34,56 +28,47 @@ last-append : (before : Bool) (xs ys : List Bool) → last_of before (xs ++ ys) 
 last-append before [] ys = refl
 last-append before (word ∷ xs) ys = last-append word xs ys
 
-count_set : (free : List Bool) (place len : ℕ) (value : Bool) → hole_count (set_range free place (suc len) value) ≡
-    hole_count_after false (take place free)
-    + hole_count_after (last_of false (take place free)) (replicate (suc len) value)
-    + hole_count_after value (drop (place + suc len) free)
-count_set free place len value = grind (arith, last-append, last_same, hole_count_after-append)
-
 -- of a range that is free, and of another
-count_both : (free : List Bool) (place len : ℕ) → hole_count (set_range free place (suc len) true)
-    + cond (is_free free (place + suc len)) 1 0
-    ≡ hole_count (set_range free place (suc len) false) + cond (last_of false (take place free)) 0 1
-count_both free place len = grind (arith, get_or-drop, count_set, count_free, hole_count_after-false, count_behind)
-
 pub hole_count_changed : (free : List Bool) (place len : ℕ) → 1 ≤ len →
     hole_count (set_range free place len true) + cond (is_free free (place + len)) 1 0
     ≡ hole_count (set_range free place len false) + cond (last_of false (take place free)) 0 1
 hole_count_changed free place zero some = absurd (omega arith)
-hole_count_changed free place (suc len) some = count_both free place len
+hole_count_changed free place (suc len) some =
+    grind (
+      arith,
+      get_or-drop,
+      last-append,
+      last_same,
+      hole_count_after-append,
+      hole_count_after_true-true,
+      hole_count_after-false,
+      count_behind,
+    )
 
 last_none : (place : ℕ) → last_of false (replicate place false) ≡ false
 last_none zero = refl
 last_none (suc place) = last_none place
 
-count_all_from : (place n : ℕ) →
-    hole_count (replicate place false ++ replicate n true) ≡ hole_count_after false (replicate n true)
-count_all_from place n = grind (arith, hole_count_after-append, hole_count_after-false, last_none)
-
 count_some : (n : ℕ) → hole_count_after false (replicate n true) ≡ cond (eqb n 0) 0 1
 count_some zero = refl
-count_some (suc n) = cc (count_free false n, ne_eqb (suc n) 0 (λ e. absurd (omega arith)))
+count_some (suc n) = grind (arith, hole_count_after_true-true)
 
 pub hole_count_from : (place size : ℕ) → hole_count (free_from place size) ≡ cond (eqb (size - place) 0) 0 1
-hole_count_from place size = omega (arith, count_all_from, count_some)
+hole_count_from place size = grind (arith, hole_count_after-append, hole_count_after-false, last_none, count_some)
 
 -- One word more.
 pub next_word : (each : ℕ → Bool) (n : ℕ) → words_from each 0 (n + 1) ≡ words_from each 0 n ++ each n ∷ []
 next_word each n = grind (arith, words_from-add)
 
-one_more : (before free : Bool) → hole_count_after before (free ∷ []) ≡ from_bool (free && not before)
-one_more true true = refl
-one_more false true = refl
-one_more true false = refl
-one_more false false = refl
-
 pub count_next : (each : ℕ → Bool) (n : ℕ) → hole_count (words_from each 0 (n + 1))
     ≡ hole_count (words_from each 0 n) + from_bool (each n && not (last_of false (words_from each 0 n)))
-count_next each n = grind (arith, next_word, hole_count_after-append, one_more)
+count_next each n = grind (arith, next_word, hole_count_after-append)
 
 pub last_next : (each : ℕ → Bool) (n : ℕ) → last_of false (words_from each 0 (n + 1)) ≡ each n
 last_next each n = grind (arith, next_word, last-append)
 
 pub at_most_one : (b : Bool) → from_bool b ≤ 1
-at_most_one true = omega arith
-at_most_one false = omega arith
+at_most_one b = grind arith
+
+-- one step of counting the holes
+pub ruleset counts = (count_next, last_next, at_most_one)

@@ -7,7 +7,6 @@ pub mod Finding
 pub mod Near
 pub mod Counts
 pub mod Regions
-pub mod Layouts
 pub mod Listed
 pub mod Joining
 pub mod Trees

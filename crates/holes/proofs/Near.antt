@@ -1,25 +1,18 @@
 -- Looking for the lowest fit in some bitmaps that follow one another.
-use Rattle.std.proofs.Common.{◌≡◌, ℕ, ◌+◌, ◌-◌, ◌*◌, ◌<◌, ◌≤◌, true, false, cond, List, ◌++◌, length, get_or}
-use Rattle.std.proofs.Common.{Option, Some, None, IsNone, IfSome, ap, arith, inl, inr, ◌^◌}
+use Rattle.std.proofs.Common.{◌≡◌, ℕ, ◌+◌, ◌-◌, ◌*◌, ◌/◌, ◌<◌, ◌≤◌, true, false, cond, List, ◌++◌, length, get_or}
+use Rattle.std.proofs.Common.{Option, IsNone, IfSome, arith, ◌^◌}
 use Rattle.std.specs.Prelude.{replicate}
-use Rattle.std.proofs.lemmas.Bool.{cases_lt, true≢false}
 use Rattle.holes.specs.declared.summary.Summary.{Summary}
+use Rattle.std.specs.Int.{w64, trailing_zeros}
 use Rattle.holes.specs.FreeWords.{front_run, widest}
-use Rattle.holes.specs.Tree.{words_of_bits, word_at, words_of, words_between, all_free, back_run}
-use Rattle.holes.specs.Tree.{lowest_fit, summary, join, NoneBelow}
-use Rattle.holes.proofs.Runs.{back-le-length, widest-append, back-append, summary-append, lowest-append_left}
-use Rattle.holes.proofs.Runs.{lowest-append_between, lowest-append_right}
+use Rattle.holes.specs.Tree.{words_of_bits, word_at, words_of, words_between, all_free, back_run, lowest_fit, summary}
+use Rattle.holes.specs.Tree.{join, NoneBelow}
+use Rattle.holes.proofs.Runs.{lowest_front, front-le-widest, front-le-length, back-le-length, widest-append}
+use Rattle.holes.proofs.Runs.{back-append, summary-append, lowest-append_left, lowest-append_between}
+use Rattle.holes.proofs.Runs.{lowest-append_right}
 use Rattle.holes.proofs.Bits.{length-words, words_from-add, all_words}
-use Rattle.holes.proofs.Bitmaps.{length-bits, widest_before, lowest_before}
+use Rattle.holes.proofs.Bitmaps.{length-bits, gap, free_front, widest_before, lowest_before, summary_of_zero}
 use Rattle.holes.proofs.Nodes.{bitmap_words}
-
--- no hole of the bitmaps up to an index is wide enough, and `run` words are free right before it
-pub record Passed (bits : List ℕ) (len first index run : ℕ) : Type 0 where
-  pub short : widest (words_between bits first index) < len
-  pub back : back_run (words_between bits first index) ≡ run
-
-pub passed_none : (bits : List ℕ) (len first : ℕ) → 1 ≤ len → Passed bits len first first 0
-passed_none bits len first some = grind arith
 
 pub length-between : (bits : List ℕ) (first end : ℕ) → length (words_between bits first end) ≡ 64 * (end - first)
 length-between bits first end = omega (arith, length-words)
@@ -47,63 +40,59 @@ found_before : (bits : List ℕ) (len first index end place : ℕ) → 1 ≤ len
     len ≤ widest (words_between bits first index) →
     place ≡ 64 * first + lowest_fit len (words_between bits first index) → Found bits len first end place
 found_before bits len first index end place some from to fits is =
-    let before = words_between bits first index in
-    let rest = words_between bits index end in
-    grind (
-      arith,
-      between_split bits first index end from to,
-      widest-append before rest,
-      lowest-append_left len before rest some fits,
-    )
+    grind (arith, between_split bits first index end, widest-append, lowest-append_left)
 
--- it begins right before a bitmap
-pub found_between : (bits : List ℕ) (len first end index run : ℕ) → 1 ≤ len → first ≤ index → index < end →
-    Passed bits len first index run → len ≤ run + front_run (words_of_bits (get_or bits index 0)) →
-    Found bits len first end (64 * index - run)
-found_between bits len first end index run some from lt passed fits =
+-- no hole of the bitmaps up to an index is wide enough, and `run` words are free right before it
+pub record Passed (bits : List ℕ) (len first index run : ℕ) : Type 0 where
+  pub short : widest (words_between bits first index) < len
+  pub back : back_run (words_between bits first index) ≡ run
+  pub run_within : run ≤ 64 * (index - first)
+  -- the lowest fit begins right before the next bitmap, or in it
+  pub before : (end : ℕ) → index < end → len ≤ run + front_run (words_of_bits (get_or bits index 0)) →
+      Found bits len first end (64 * index - run)
+  pub inside : (end place : ℕ) → index < end → run + front_run (words_of_bits (get_or bits index 0)) < len →
+      len ≤ widest (words_of_bits (get_or bits index 0)) →
+      place ≡ lowest_fit len (words_of_bits (get_or bits index 0)) → Found bits len first end (64 * index + place)
+
+passed : (bits : List ℕ) (len first index run : ℕ) → 1 ≤ len → first ≤ index →
+    widest (words_between bits first index) < len → back_run (words_between bits first index) ≡ run →
+    Passed bits len first index run
+passed bits len first index run some from short back =
     let before = words_between bits first index in
     let here = words_of_bits (get_or bits index 0) in
     let next = between_next bits first index from in
-    found_before bits len first (index + 1) end (64 * index - run) some (omega arith) (omega arith)
-    (omega (arith, ap widest next, widest-append before here, passed.back))
-    (grind (arith, lowest-append_between, length-between, back-le-length))
+    let back_len = back-le-length before in
+    let before_len = length-between bits first index in
+    let wide = widest-append before here in
+    record {
+      short = short;
+      back = back;
+      run_within = omega arith;
+      before = λ end lt fits. found_before bits len first (index + 1) end (64 * index - run) some (omega arith)
+          (omega arith) (grind arith) (grind (arith, lowest-append_between));
+      inside = λ end place lt apart fits is. found_before bits len first (index + 1) end (64 * index + place) some
+          (omega arith) (omega arith) (grind arith) (grind (arith, lowest-append_right));
+    }
 
--- it begins in a bitmap
-pub found_inside : (bits : List ℕ) (len first end index run place : ℕ) → 1 ≤ len → first ≤ index → index < end →
-    Passed bits len first index run → run + front_run (words_of_bits (get_or bits index 0)) < len →
-    len ≤ widest (words_of_bits (get_or bits index 0)) →
-    place ≡ lowest_fit len (words_of_bits (get_or bits index 0)) → Found bits len first end (64 * index + place)
-found_inside bits len first end index run place some from lt passed apart fits is =
-    let before = words_between bits first index in
-    let here = words_of_bits (get_or bits index 0) in
-    let next = between_next bits first index from in
-    found_before bits len first (index + 1) end (64 * index + place) some (omega arith) (omega arith)
-    (omega (arith, ap widest next, widest-append before here))
-    (grind (arith, lowest-append_right, length-between))
+pub passed_none : (bits : List ℕ) (len first : ℕ) → 1 ≤ len → Passed bits len first first 0
+passed_none bits len first some = passed bits len first first 0 some (omega arith) (grind arith) (grind arith)
 
 -- it lies after a bitmap
-pub passed_more : (bits : List ℕ) (len first index run next_run : ℕ) → first ≤ index →
+pub passed_more : (bits : List ℕ) (len first index run next_run : ℕ) → 1 ≤ len → first ≤ index →
     Passed bits len first index run → run + front_run (words_of_bits (get_or bits index 0)) < len →
     widest (words_of_bits (get_or bits index 0)) < len →
     next_run ≡ cond (all_free (words_of_bits (get_or bits index 0)))
     (back_run (words_of_bits (get_or bits index 0)) + run) (back_run (words_of_bits (get_or bits index 0))) →
     Passed bits len first (index + 1) next_run
-passed_more bits len first index run next_run from passed apart short is =
-    grind (arith, between_next, widest-append, back-append)
-
-pub run_within : (bits : List ℕ) (len first index run : ℕ) → Passed bits len first index run →
-    run ≤ 64 * (index - first)
-run_within bits len first index run passed = omega (arith, back-le-length, length-between)
+passed_more bits len first index run next_run some from before apart short is =
+    passed bits len first (index + 1) next_run some (omega arith) (grind (arith, between_next, widest-append))
+    (grind (arith, between_next, back-append))
 
 -- No word is free before the first of the bitmaps.
 near_words : (bits : List ℕ) (near : ℕ) → near ≤ length bits → NoneBelow bits (64 * near) →
     words_of bits ≡ replicate (64 * near) false ++ words_between bits near (length bits)
 near_words bits near within none =
-    grind (
-      arith,
-      words_from-add (word_at bits) 0 (64 * near) (64 * (length bits - near)),
-      all_words (word_at bits) 0 (64 * near) false (λ word lt. none (0 + word) (omega arith)),
-    )
+    grind (arith, words_from-add (word_at bits) 0 (64 * near) (64 * (length bits - near)), all_words)
 
 pub none_near : (bits : List ℕ) (near end : ℕ) → near ≤ end → end ≡ length bits → NoneBelow bits (64 * near) →
     widest (words_between bits near end) < 1 → widest (words_of bits) < 1
@@ -115,17 +104,27 @@ pub found_near : (bits : List ℕ) (len near end place : ℕ) → 1 ≤ len → 
     NoneBelow bits (64 * near) → Found bits len near end place →
     (len ≤ widest (words_of bits)) × (place ≡ lowest_fit len (words_of bits))
 found_near bits len near end place some from to none found =
-    let here = words_between bits near end in
-    let rest = words_between bits end (length bits) in
-    grind (
-      arith,
-      near_words bits near (omega arith) none,
-      between_split bits near end (length bits) from to,
-      widest_before (64 * near) (here ++ rest),
-      widest-append here rest,
-      lowest_before len (64 * near) (here ++ rest) some,
-      lowest-append_left len here rest some found.fits,
-    )
+    let words = near_words bits near (omega arith) none in
+    let split = between_split bits near end (length bits) from to in
+    grind (arith, widest_before, widest-append, lowest_before, lowest-append_left)
+
+-- the lowest free word
+pub lowest_near : (bits : List ℕ) (near : ℕ) → near < length bits → NoneBelow bits (64 * near) →
+    0 < get_or bits near 0 → get_or bits near 0 < 2 ^ 64 →
+    (near * 64 + trailing_zeros w64 (get_or bits near 0) ≡ lowest_fit 1 (words_of bits))
+    × (trailing_zeros w64 (get_or bits near 0) < 64) × (1 ≤ widest (words_of bits))
+lowest_near bits near within none some small =
+    let bitmap = get_or bits near 0 in
+    let g = gap bitmap some small in
+    let rest = bitmap / 2 ^ trailing_zeros w64 bitmap in
+    let front = free_front rest g.free in
+    let wide : 1 ≤ widest (words_of_bits bitmap) = omega (arith, g.same_widest, front-le-widest (words_of_bits rest)) in
+    let lowest = g.same_lowest 1 (omega arith) wide in
+    let word = lowest_front 1 (words_of_bits rest) front in
+    let one = one_bitmap bits near in
+    let found = found_near bits 1 near (near + 1) (near * 64 + trailing_zeros w64 bitmap) (omega arith) (omega arith)
+    (omega arith) none (record { fits = grind arith; lowest = grind arith }) in
+    (found.1, g.within, found.0)
 
 pub found_near_if : (found : Option ℕ) (bits : List ℕ) (len near end : ℕ) → 1 ≤ len → near ≤ end →
     end ≤ length bits → NoneBelow bits (64 * near) →
@@ -133,12 +132,7 @@ pub found_near_if : (found : Option ℕ) (bits : List ℕ) (len near end : ℕ) 
     IfSome found (λ place. place ≡ 64 * near + lowest_fit len (words_between bits near end)) →
     IfSome found (λ place. len ≤ widest (words_of bits))
     × IfSome found (λ place. place ≡ lowest_fit len (words_of bits))
-found_near_if None bits len near end some from to none short lowest = (tt, tt)
-found_near_if (Some place) bits len near end some from to none short lowest =
-    elim (cases_lt (widest (words_between bits near end)) len) [
-      | inl lt ↦ absurd (true≢false (short lt))
-      | inr fits ↦ found_near bits len near end place some from to none (record { fits = fits; lowest = lowest })
-    ]
+found_near_if found bits len near end some from to none short lowest = grind (arith, found_near bits len near end)
 
 -- The summary of some bitmaps, one after another.
 pub first_summary : (bits : List ℕ) (first : ℕ) →
@@ -154,3 +148,9 @@ next_summary bits first index all from lt small is =
 
 pub all_between : (bits : List ℕ) (end : ℕ) → end ≡ length bits → words_between bits 0 end ≡ words_of bits
 all_between bits end is = grind arith
+
+-- how many words may be free at the front of a bitmap
+pub ruleset looking = (front-le-length, length-bits)
+
+-- the steps of the loop over bitmaps
+pub ruleset summaries = (first_summary, next_summary, summary_of_zero)

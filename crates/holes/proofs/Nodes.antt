@@ -1,13 +1,12 @@
 -- The nodes of a tree and the leaves below them.
-use Rattle.std.proofs.Common.{◌≡◌, ◌≢◌, ℕ, ◌+◌, ◌-◌, ◌*◌, ◌/◌, ◌^◌, ◌<◌, ◌≤◌, false, List}
-use Rattle.std.proofs.Common.{◌++◌, length, get_or, set, ◌⊎◌, refl, ◌∙◌, ap, inl, inr, arith, zero, suc, rules}
+use Rattle.std.proofs.Common.{◌≡◌, ◌≢◌, ℕ, ◌+◌, ◌-◌, ◌*◌, ◌/◌, ◌^◌, ◌<◌, ◌≤◌, false, List, ◌++◌, length, get_or, set}
+use Rattle.std.proofs.Common.{◌⊎◌, refl, arith, zero, suc, rules}
 use Rattle.std.specs.Prelude.{replicate}
-use Rattle.std.proofs.lemmas.Bool.{cases_lt, cases_eq}
 use Rattle.std.proofs.lemmas.List.{get_or_past, get_or-set_same, get_or-set_other}
 use Rattle.std.proofs.lemmas.Nat.Bits.{bit_at-zero}
 use Rattle.holes.specs.declared.summary.Summary.{Summary}
-use Rattle.holes.specs.Tree.{is_set, words_from, words_of_bits, word_at, node_at, summary, join}
-use Rattle.holes.specs.Tree.{leaf_words, words_between, width, first_leaf, IsNode, node_words, IsRight, IsAlike, above}
+use Rattle.holes.specs.Tree.{is_set, words_from, words_of_bits, word_at, node_at, summary, join, leaf_words}
+use Rattle.holes.specs.Tree.{words_between, width, first_leaf, IsNode, node_words, IsRight, IsAlike, above}
 use Rattle.holes.proofs.Runs.{summary-append}
 use Rattle.holes.proofs.Bits.{same_words_from, words_from-add, length-words, all_words}
 
@@ -41,8 +40,7 @@ width-two zero some = absurd (omega arith)
 width-two (suc height) some = omega (arith, width-pos height)
 
 pub pow_le : (i j : ℕ) → i ≤ j → 2 ^ i ≤ 2 ^ j
-pow_le zero zero le = omega arith
-pow_le zero (suc j) le = search rules
+pow_le zero j le = search (rules, arith)
 pow_le (suc i) zero le = absurd (omega arith)
 pow_le (suc i) (suc j) le = omega (arith, pow_le i j (omega arith))
 
@@ -67,15 +65,7 @@ parent is some = grind (arith, parent_at)
 
 -- a node has one height
 same_depth : (d e index : ℕ) → 2 ^ d ≤ index → index < 2 * 2 ^ d → 2 ^ e ≤ index → index < 2 * 2 ^ e → d ≡ e
-same_depth d e index from to other_from other_to = elim (cases_lt d e) [
-  | inl below ↦
-      grind (arith, pow_le (suc d) e (omega arith))
-  | inr ge ↦ elim (cases_lt e d) [
-    | inl below ↦
-        grind (arith, pow_le (suc e) d (omega arith))
-    | inr le ↦ omega arith
-  ]
-]
+same_depth d e index from to other_from other_to = grind (arith, pow_le (suc d) e, pow_le (suc e) d)
 
 pub same_height : {top height other index : ℕ} → IsNode top height index → IsNode top other index → height ≡ other
 same_height is also = grind (arith, same_depth)
@@ -91,8 +81,6 @@ span top zero index is = grind arith
 span top (suc height) index is =
     omega (
       arith,
-      left_part,
-      right_part,
       first_leaf-next,
       span top height (2 * index) (left_part is),
       span top height (2 * index + 1) (right_part is),
@@ -111,10 +99,7 @@ inner {top} is some =
     omega (arith, pow_le 0 is.depth (omega arith), pow_le (suc is.depth) top (omega (arith, is.at)))
 
 pub leaf_height : {top height index : ℕ} → IsNode top height index → 2 ^ top ≤ index → height ≡ 0
-leaf_height {height} is ge = elim (cases_lt 0 height) [
-  | inl some ↦ absurd (omega (arith, (inner is some).1))
-  | inr none ↦ omega arith
-]
+leaf_height is ge = grind (arith, inner is)
 
 -- the leaves of a node are among those of the node above it
 pub record Inside (height index : ℕ) : Type 0 where
@@ -123,12 +108,7 @@ pub record Inside (height index : ℕ) : Type 0 where
 
 pub inside_parent : (height index : ℕ) → Inside height index
 unfolding first_leaf width
-inside_parent height index = grind (
-  arith,
-  cases_eq index (2 * (index / 2)),
-  cases_lt index (2 * (index / 2) + 1),
-  first_leaf-next height (2 * (index / 2)),
-)
+inside_parent height index = grind (arith, first_leaf-next height (2 * (index / 2)))
 
 -- nodes of one height have their leaves one after another
 pub first_leaf-lt : (height i j : ℕ) → i < j → first_leaf height i + width height ≤ first_leaf height j
@@ -158,30 +138,21 @@ above_covers (suc height) leaf = grind (arith, inside_parent, above_covers heigh
 pub above_past : (top height leaf : ℕ) → IsNode top 0 leaf → top < height → above height leaf ≡ 0
 unfolding above
 above_past top zero leaf is lt = absurd (omega arith)
-above_past top (suc height) leaf is lt = elim (cases_lt top height) [
-  | inl past ↦ omega (arith, above_past top height leaf is past)
-  | inr last ↦
-      grind (arith, above_is top height leaf is (omega arith))
-]
+above_past top (suc height) leaf is lt = grind (arith, above_past top height leaf is, above_is top height leaf is)
 
 pub above_within : {top : ℕ} (height : ℕ) {leaf : ℕ} → IsNode top 0 leaf → 0 < above height leaf → height ≤ top
-above_within {top} height {leaf} is some = elim (cases_lt top height) [
-  | inl past ↦ absurd (omega (arith, above_past top height leaf is past))
-  | inr le ↦ le
-]
+above_within {top} height {leaf} is some = grind (arith, above_past top height leaf is)
 
 -- a node of one height that isn't above a leaf
 pub apart_above : (height index leaf : ℕ) → index ≢ above height leaf →
     (first_leaf height index + width height ≤ leaf) ⊎ (leaf + 1 ≤ first_leaf height index)
 apart_above height index leaf ne =
-    let here = above_covers height leaf in
-    elim (cases_lt index (above height leaf)) [
-      | inl below ↦ grind (arith, first_leaf-lt height index (above height leaf) below)
-      | inr ge ↦ elim (cases_lt (above height leaf) index) [
-        | inl past ↦ grind (arith, first_leaf-lt height (above height leaf) index past)
-        | inr le ↦ absurd (ne (omega arith))
-      ]
-    ]
+    grind (
+      arith,
+      above_covers height leaf,
+      first_leaf-lt height index (above height leaf),
+      first_leaf-lt height (above height leaf) index,
+    )
 
 -- the leaves of a low node are of one block
 pub same_block : (height index leaf : ℕ) → height ≤ 3 → first_leaf height index ≤ leaf →
@@ -203,8 +174,9 @@ bitmap_words bits index = same_words_from (is_set (get_or bits index 0)) (word_a
 pub between_leaf : (bits : List ℕ) (leaf first end : ℕ) → first ≡ 4 * leaf → end ≡ first + 4 →
     words_between bits first end ≡ leaf_words bits leaf
 between_leaf bits leaf first end from to =
-    ap (λ p. words_from (word_at bits) p (64 * (end - first))) (let e : 64 * first ≡ 256 * leaf = omega arith in e)
-    ∙ ap (words_from (word_at bits) (256 * leaf)) (let e : 64 * (end - first) ≡ 256 = omega arith in e)
+    let place : 64 * first ≡ 256 * leaf = omega arith in
+    let len : 64 * (end - first) ≡ 256 = omega arith in
+    rw (place, len) refl
 
 -- The words of nodes.
 pub length-node_words : (bits : List ℕ) (top height index : ℕ) →
@@ -220,15 +192,10 @@ pub node_words-split : (bits : List ℕ) {top : ℕ} (height : ℕ) {index : ℕ
     bits top (suc height) index ≡ node_words bits top height (2 * index) ++ node_words bits top height (2 * index + 1)
 unfolding node_words first_leaf width
 node_words-split bits {top} height {index} is =
-    let from = 256 * (first_leaf height (2 * index) - 2 ^ top) in
     let wide = 256 * width height in
-    grind (
-      arith,
-      span top height (2 * index) (left_part is),
-      left_part is,
-      first_leaf-next height (2 * index),
-      words_from-add (word_at bits) from wide wide,
-    )
+    let split = words_from-add (word_at bits) (256 * (first_leaf height (2 * index) - 2 ^ top)) wide wide in
+    let left = span top height (2 * index) (left_part is) in
+    grind (arith, first_leaf-next height (2 * index))
 
 -- a node whose parts are right is right once they are joined
 pub join_right : (bits : List ℕ) (nodes : List Summary) {top : ℕ} (height : ℕ) {index : ℕ} → 256 * 2 ^ top < 2 ^ 32 →
@@ -236,11 +203,10 @@ pub join_right : (bits : List ℕ) (nodes : List Summary) {top : ℕ} (height : 
     index + 1) → join (node_at nodes (2 * index)) (node_at nodes (2 * index + 1)) ≡ summary (node_words bits top (suc
     height) index)
 join_right bits nodes {top} height {index} small is left_right right_right =
-    let left_words = node_words bits top height (2 * index) in
-    let right_words = node_words bits top height (2 * index + 1) in
     let left = span top height (2 * index) (left_part is) in
     let right = span top height (2 * index + 1) (right_part is) in
-    grind (arith, summary-append, first_leaf-next, length-node_words, node_words-split)
+    let next = first_leaf-next height (2 * index) in
+    grind (arith, summary-append, length-node_words, node_words-split bits height is)
 
 -- the words of a low node in a block that is all free, or has no free word
 pub alike_words : (bits : List ℕ) {top height index : ℕ} (alike : IsAlike bits top (first_leaf height index)) → IsNode

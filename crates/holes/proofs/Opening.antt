@@ -1,13 +1,12 @@
 -- Opening a block: all nodes below it are right then.
-use Rattle.std.proofs.Common.{◌≡◌, ◌≢◌, ℕ, ◌+◌, ◌-◌, ◌*◌, ◌/◌, ◌^◌}
-use Rattle.std.proofs.Common.{◌<◌, ◌≤◌, Bool, true, false, cond, List, length, ◌⊎◌}
-use Rattle.std.proofs.Common.{refl, sym, ◌∙◌, ap, subst, inl, inr, arith, zero, suc}
+use Rattle.std.proofs.Common.{◌≡◌, ◌≢◌, ℕ, ◌+◌, ◌-◌, ◌*◌, ◌/◌, ◌^◌, ◌<◌, ◌≤◌, Bool, true, List, length, ◌⊎◌, refl, sym}
+use Rattle.std.proofs.Common.{◌∙◌, ap, inl, inr, arith, zero, suc}
 use Rattle.std.specs.Prelude.{replicate}
-use Rattle.std.proofs.lemmas.Bool.{cases_lt, cases_eq, cases_Bool, true≢false}
+use Rattle.std.proofs.lemmas.Bool.{cases_eq}
 use Rattle.holes.specs.declared.summary.Summary.{Summary}
 use Rattle.holes.specs.FreeWords.{is_free, widest}
-use Rattle.holes.specs.Tree.{word_at, all_free, node_at, nothing_free, summary, leaf_count, width, first_leaf}
-use Rattle.holes.specs.Tree.{IsPowerOfTwo, IsNode, node_words, IsRight, IsAlike, above, IsBlockWritten, AreOpened}
+use Rattle.holes.specs.Tree.{word_at, all_free, node_at, summary, leaf_count, width, first_leaf, IsPowerOfTwo, IsNode}
+use Rattle.holes.specs.Tree.{node_words, IsRight, IsAlike, above, IsBlockWritten, AreOpened}
 use Rattle.holes.proofs.Runs.{front_all, run_free, word_run, run-le-widest}
 use Rattle.holes.proofs.Bits.{word_in}
 use Rattle.holes.proofs.Bitmaps.{summary_all}
@@ -30,15 +29,8 @@ block_width = refl
 -- words that are all free, or all not free
 all_alike : (words : List Bool) (value : Bool) (word : ℕ) → word < length words → all_free words ≡ value →
     (value ≡ true) ⊎ (widest words ≡ 0) → is_free words word ≡ value
-all_alike words true word lt all which =
-    run_free words 0 (length words) (omega (arith, front_all words all)) word (omega arith) (omega arith)
-all_alike words false word lt all which = elim which [
-  | inl e ↦ absurd (true≢false (sym e))
-  | inr none ↦ elim (cases_Bool (is_free words word)) [
-    | inl free ↦ grind (arith, word_run words word free, run-le-widest word words)
-    | inr taken ↦ taken
-  ]
-]
+all_alike words value word lt all which =
+    grind (arith, front_all words, run_free words 0 (length words), word_run words word, run-le-widest word words)
 
 -- a block whose node says that all words are free, or none is
 pub block_alike : (bits : List ℕ) (nodes : List Summary) {top block : ℕ} → IsNode top 3 block → IsRight bits nodes top
@@ -48,55 +40,35 @@ unfolding node_words
 block_alike bits nodes {top} {block} is right which word at =
     let here = span top 3 block is in
     let start = 256 * (first_leaf 3 block - 2 ^ top) in
-    let words = node_words bits top 3 block in
-    let len : length words ≡ 256 * width 3 = length-node_words bits top 3 block in
-    let whole : (node_at nodes block).whole ≡ all_free words = ap (λ (n : Summary). n.whole) right in
-    let longest : (node_at nodes block).longest ≡ widest words = ap (λ (n : Summary). n.longest) right in
-    let within : word - start < 256 * width 3 = omega (arith, block_first block, block_width, here.from) in
-    grind (
-      arith,
-      block_first block,
-      word_in (word_at bits) start (256 * width 3) (word - start) within,
-      all_alike words (node_at nodes block).whole (word - start) (omega (
-        arith,
-        len,
-      )) (sym whole) (elim which [ inl e ↦ inl e | inr e ↦ inr (omega (arith, longest)) ]),
-    )
+    let len = length-node_words bits top 3 block in
+    let first = block_first block in
+    let within : word - start < 256 * width 3 = omega (arith, block_width, here.from) in
+    let word_is = word_in (word_at bits) start (256 * width 3) (word - start) within in
+    let alike = all_alike (node_words bits top 3 block) (node_at nodes block).whole (word - start) in
+    grind arith
 
 -- the node of a block whose words are alike says so
 pub alike_node : (bits : List ℕ) (nodes : List Summary) {top block : ℕ} → IsNode top 3 block → IsRight bits nodes top
     3 block → IsAlike bits top (8 * block) → ((node_at nodes block).whole ≡ true) ⊎ ((node_at nodes block).longest ≡
     0)
 alike_node bits nodes {top} {block} is right alike =
-    let same : IsAlike bits top (first_leaf 3 block) = subst (IsAlike bits top) (sym (block_first block)) alike in
-    let node = right ∙ (ap summary (alike_words bits same is (omega arith))
-    ∙ summary_all (256 * width 3) same.0 (omega (arith, block_width))) in
-    elim (cases_Bool same.0) [
-      | inl all ↦ grind arith
-      | inr none ↦ grind arith
-    ]
-  where
-    whole_of : (n : ℕ) (value : Bool) → value ≡ true →
-        (cond value (record { front = n; back = n; longest = n; whole = true }) nothing_free).whole ≡ true
-    whole_of n true e = refl
-    whole_of n false e = absurd (true≢false (sym e))
-
-    longest_of : (n : ℕ) (value : Bool) → value ≡ false →
-        (cond value (record { front = n; back = n; longest = n; whole = true }) nothing_free).longest ≡ 0
-    longest_of n true e = absurd (true≢false e)
-    longest_of n false e = refl
+    let same : IsAlike bits top (first_leaf 3 block) = rw (block_first block) alike in
+    let words = alike_words bits same is (omega arith) in
+    let node = summary_all (256 * width 3) same.0 (omega (arith, block_width)) in
+    grind arith
 
 -- the nodes below a block
-below_block : {top block height index : ℕ} → IsNode top 3 block → (height ≡ 0) × (index / 8 ≡ block) ⊎ (height ≡ 1) ×
-    (index / 4 ≡ block) ⊎ (height ≡ 2) × (index / 2 ≡ block) → IsNode top height index
+abbrev IsBelow : ℕ → ℕ → ℕ → Type 0
+IsBelow height index block =
+    (height ≡ 0) × (index / 8 ≡ block) ⊎ (height ≡ 1) × (index / 4 ≡ block) ⊎ (height ≡ 2) × (index / 2 ≡ block)
+
+below_block : {top block height index : ℕ} → IsNode top 3 block → IsBelow height index block →
+    IsNode top height index
 below_block is which =
     let one : 2 ^ suc is.depth ≡ 2 * 2 ^ is.depth = omega arith in
     let two : 2 ^ suc (suc is.depth) ≡ 2 * 2 ^ suc is.depth = omega arith in
     let three : 2 ^ suc (suc (suc is.depth)) ≡ 2 * 2 ^ suc (suc is.depth) = omega arith in
-    elim which [
-      | inl e ↦ grind arith
-      | inr more ↦ grind arith
-    ]
+    grind arith
 
 -- a low node of a block is among those below it
 in_block : (low index block : ℕ) → low < 3 → first_leaf low index / 8 ≡ block → index / 8 ≢ block →
@@ -108,44 +80,33 @@ in_block (suc (suc zero)) index block lt at not_leaf not_pair not_half = not_hal
 in_block (suc (suc (suc low))) index block lt at not_leaf not_pair not_half = absurd (omega arith)
 
 -- where the first leaf of a low node is
-first_of : (height index block : ℕ) → (height ≡ 0) × (index / 8 ≡ block) ⊎ (height ≡ 1) × (index / 4 ≡ block)
-    ⊎ (height ≡ 2) × (index / 2 ≡ block) → (first_leaf height index / 8 ≡ block) × (height < 3)
+first_of : (height index block : ℕ) → IsBelow height index block →
+    (first_leaf height index / 8 ≡ block) × (height < 3)
 unfolding first_leaf
-first_of zero index block which = omega arith
-first_of (suc zero) index block which = omega arith
-first_of (suc (suc zero)) index block which = omega arith
-first_of (suc (suc (suc height))) index block which = omega arith
+first_of height index block which = grind arith
 
 widths : (width 0 ≡ 1) × (width 1 ≡ 2) × (width 2 ≡ 4)
 unfolding width
 widths = (refl, refl, refl)
 
 -- a node below a block that was written
-written_right : (bits : List ℕ) (nodes : List Summary) {top block : ℕ} (height : ℕ) {low index : ℕ} (count : ℕ) (value
-    : Bool) → IsNode top 3 block → ((word : ℕ) → (2 ^ top + word / 256) / 8 ≡ block → word_at bits word ≡ value) →
-    IsNode top low index → (height ≡ 0) × (index / 8 ≡ block) ⊎ (height ≡ 1) × (index / 4 ≡ block) ⊎ (height ≡ 2) ×
-    (index / 2 ≡ block) → count ≡ 256 * width height → node_at nodes index ≡ summary (replicate count value) → IsRight
-    bits nodes top low index
+written_right : (bits : List ℕ) (nodes : List Summary) {top block : ℕ} (height : ℕ) {low index : ℕ} (count : ℕ)
+    (value : Bool) → IsNode top 3 block →
+    ((word : ℕ) → (2 ^ top + word / 256) / 8 ≡ block → word_at bits word ≡ value) → IsNode top low index →
+    IsBelow height index block → count ≡ 256 * width height → node_at nodes index ≡ summary (replicate count value) →
+    IsRight bits nodes top low index
 written_right bits nodes {top} {block} height {low} {index} count value block_is words is which count_is node =
     let here = below_block block_is which in
-    let same : low ≡ height = same_height is here in
     let first = first_of height index block which in
     let alike : IsAlike bits top (first_leaf height index) = (value, (λ word at. words word (at ∙ first.0))) in
-    subst (λ n. IsRight bits nodes top n index) (sym same)
-    (node ∙ (ap (λ n. summary (replicate n value)) count_is
-    ∙ sym (ap summary (alike_words bits alike here (omega (arith, first.1))))))
+    let here_words = alike_words bits alike here (omega (arith, first.1)) in
+    rw (same_height is here) (node ∙ rw count_is (sym (ap summary here_words)))
 
 -- the nodes below the block of a leaf are among those of the tree
 pub block_within : (nodes : List Summary) (leaf : ℕ) → leaf < leaf_count nodes → length nodes ≡ 2 * leaf_count nodes →
     IsPowerOfTwo (leaf_count nodes) → 1 ≤ (leaf_count nodes + leaf) / 8 →
     8 * ((leaf_count nodes + leaf) / 8) + 8 ≤ length nodes
 block_within nodes leaf within even power some = grind (arith, pow_eight, pow_le)
-
-three_low : 3 < 3 → ⊥
-three_low lt = absurd (omega arith)
-
-either : {A : Type 0} → A ⊎ A → A
-either which = elim which [ inl a ↦ a | inr a ↦ a ]
 
 pub opened : {old new : List Summary} (leaf : ℕ) {block : ℕ} → leaf < leaf_count old → block ≡ (leaf_count old + leaf)
     / 8 → 1 ≤ block → ((node_at old block).whole ≡ true) ⊎ ((node_at old block).longest ≡ 0) → IsBlockWritten old new
@@ -154,14 +115,11 @@ opened {old} {new} leaf {block} within block_is some alike written bits tree low
     let top = tree.height in
     let value = (node_at old block).whole in
     let count : leaf_count old ≡ 2 ^ top = omega (arith, tree.node_count) in
-    let tall : 3 ≤ top = elim (cases_lt top 3) [
-      | inl short ↦ absurd (omega (arith, pow_le top 2 (omega arith)))
-      | inr ge ↦ ge
-    ] in
+    let tall : 3 ≤ top = grind (arith, pow_le top 2) in
     let node : IsNode top 3 block = grind (arith, block_node, leaf_is) in
     let right : IsRight bits old top 3 block = elim (tree.is_right 3 block node) [
       | inl r ↦ r
-      | inr hide ↦ absurd (three_low hide.low)
+      | inr hide ↦ absurd (omega (arith, hide.low))
     ] in
     let words = block_alike bits old node right alike in
     elim (cases_eq (index / 8) block) [
@@ -177,7 +135,8 @@ opened {old} {new} leaf {block} within block_is some alike written bits tree low
             | inl r ↦ r
             | inr at ↦ elim (tree.is_right low index is) [
               | inl r ↦ r
-              | inr h ↦ absurd (in_block low index block h.low (either at ∙ sym block_is) not_leaf not_pair not_half)
+              | inr h ↦ absurd (in_block low index block h.low ((elim at [ inl a ↦ a | inr a ↦ a ]) ∙ sym block_is)
+                  not_leaf not_pair not_half)
             ]
           ]
         ]
@@ -189,25 +148,17 @@ pub open_already : (nodes : List Summary) (leaf block : ℕ) → leaf < leaf_cou
     block ≡ (leaf_count nodes + leaf) / 8 →
     (1 ≤ block → (((node_at nodes block).whole ≡ true) ⊎ ((node_at nodes block).longest ≡ 0)) → ⊥) →
     AreOpened nodes nodes leaf leaf
-open_already nodes leaf block within block_is mixed bits tree low index is which = elim which [
+open_already nodes leaf block within block_is mixed bits tree low index is which = elim (tree.is_right low index is) [
   | inl r ↦ r
-  | inr at ↦ elim (tree.is_right low index is) [
-    | inl r ↦ r
-    | inr h ↦
-        let top = tree.height in
-        let count : leaf_count nodes ≡ 2 ^ top = omega (arith, tree.node_count) in
-        let node : IsNode top 3 block = subst (IsNode top 3) (sym block_is)
-        (block_node h.tall
-        (leaf_is top (leaf_count nodes + leaf) (omega arith) (omega arith))) in
-        let right : IsRight bits nodes top 3 block = elim (tree.is_right 3 block node) [
-          | inl r ↦ r
-          | inr hide ↦ absurd (three_low hide.low)
-        ] in
-        let eight = pow_le 3 top h.tall in
-        let same = either at in
-        let alike : IsAlike bits top (8 * block) = (h.alike.0, (λ word here. h.alike.1 word (omega arith))) in
-        absurd (mixed (omega arith) (alike_node bits nodes node right alike))
-  ]
+  | inr h ↦
+      let top = tree.height in
+      let count : leaf_count nodes ≡ 2 ^ top = omega (arith, tree.node_count) in
+      let node : IsNode top 3 block = rw block_is (block_node h.tall
+      (leaf_is top (leaf_count nodes + leaf) (omega arith) (omega arith))) in
+      let right : IsRight bits nodes top 3 block = grind arith in
+      let eight = pow_le 3 top h.tall in
+      let alike = alike_node bits nodes node right in
+      grind arith
 ]
 
 -- two leaves of one block
@@ -222,10 +173,9 @@ pub opened_both : (old middle new : List Summary) (first last : ℕ) → length 
 opened_both old middle new first last len left right bits tree low index is which =
     let between = tree_opened bits old middle tree len (λ height other node r. left bits tree height other node (inl
     r)) in
-    right bits between low index is (elim which [
-      | inl r ↦ inl (left bits tree low index is (inl r))
-      | inr at ↦ elim at [
-        | inl b ↦ inl (left bits tree low index is (inr (inl b)))
-        | inr b ↦ inr (inl (b ∙ ap (λ n. (n / 2 + last) / 8) (sym len)))
-      ]
-    ])
+    let here = left bits tree low index is in
+    let there = right bits between low index is in
+    grind arith
+
+-- a block that needs no change, and where one lies
+pub ruleset opens = (block_within, open_already)

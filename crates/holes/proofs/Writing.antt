@@ -1,8 +1,8 @@
 -- The nodes between two leaves, or below a block, of which all words are free, or none is.
-use Rattle.std.proofs.Common.{◌≡◌, ◌≢◌, ℕ, ◌+◌, ◌*◌, ◌/◌, ◌^◌, ◌<◌, ◌≤◌, Bool, List, ◌⊎◌}
-use Rattle.std.proofs.Common.{refl, sym, ◌∙◌, subst, inl, inr, arith, zero, suc}
+use Rattle.std.proofs.Common.{◌≡◌, ◌≢◌, ℕ, ◌+◌, ◌*◌, ◌/◌, ◌^◌, ◌<◌, ◌≤◌, Bool, List, ◌⊎◌, sym, ◌∙◌, inl, inr, arith}
+use Rattle.std.proofs.Common.{zero, suc}
 use Rattle.std.specs.Prelude.{replicate}
-use Rattle.std.proofs.lemmas.Bool.{cases_lt, cases_eq}
+use Rattle.std.proofs.lemmas.Bool.{cases_eq}
 use Rattle.std.proofs.lemmas.List.{length-replicate, replicate-append-replicate}
 use Rattle.holes.specs.declared.summary.Summary.{Summary}
 use Rattle.holes.specs.Tree.{node_at, nothing_free, join, summary, width, first_leaf, IsNode, IsBlockBeside, above}
@@ -11,58 +11,24 @@ use Rattle.holes.proofs.Runs.{summary-append}
 use Rattle.holes.proofs.Nodes.{above_is, above_covers, above_within, first_leaf-lt, same_height, span, width-pos}
 
 -- how far from the ends of a range nodes of some height are written
-pub side_at : ℕ → ℕ
+unfoldable pub side_at : ℕ → ℕ
 side_at zero = 8
 side_at (suc zero) = 4
 side_at (suc (suc zero)) = 2
 side_at (suc (suc (suc zero))) = 1
 side_at (suc (suc (suc (suc height)))) = 0
 
-pub side_zero : side_at 0 ≡ 8
+pub side_half : (height : ℕ) → (side_at (suc height) ≡ side_at height / 2) × (side_at height ≤ 8)
 unfolding side_at
-side_zero = refl
-
-pub side_half : (height : ℕ) → side_at (suc height) ≡ side_at height / 2
-unfolding side_at
-side_half zero = omega arith
-side_half (suc zero) = omega arith
-side_half (suc (suc zero)) = omega arith
-side_half (suc (suc (suc zero))) = omega arith
-side_half (suc (suc (suc (suc height)))) = omega arith
-
-pub side_most : (height : ℕ) → side_at height ≤ 8
-unfolding side_at
-side_most zero = omega arith
-side_most (suc zero) = omega arith
-side_most (suc (suc zero)) = omega arith
-side_most (suc (suc (suc zero))) = omega arith
-side_most (suc (suc (suc (suc height)))) = omega arith
-
-pub above_zero : (leaf : ℕ) → above 0 leaf ≡ leaf
-unfolding above
-above_zero leaf = refl
-
-pub above_half : (height leaf : ℕ) → above (suc height) leaf ≡ above height leaf / 2
-unfolding above
-above_half height leaf = refl
-
-pub width_zero : width 0 ≡ 1
-unfolding width
-width_zero = refl
-
-pub width_twice : (height : ℕ) → width (suc height) ≡ width height + width height
-unfolding width
-width_twice height = refl
+side_half height = grind arith
 
 -- two summaries of words that are all alike
 pub doubled : (n : ℕ) (value : Bool) (node : Summary) → n + n < 2 ^ 32 → node ≡ summary (replicate n value) →
     join node node ≡ summary (replicate (n + n) value)
 doubled n value node small is =
-    cc (
-      summary-append (replicate n value) (replicate n value) (omega (arith, length-replicate n value)),
-      length-replicate n value,
-      replicate-append-replicate n n value,
-    )
+    let len = length-replicate n value in
+    rw (is, ← replicate-append-replicate n n value)
+    (sym (summary-append (replicate n value) (replicate n value) (omega arith)))
 
 -- the nodes between, up to a height
 pub record AreWrittenUnder (old new : List Summary) (top height left right : ℕ) (value : Bool) : Type 0 where
@@ -83,51 +49,33 @@ far : (height left right index : ℕ) → 2 ≤ side_at height → above height 
     index + side_at height ≤ above height right → (height < 3) × IsBlockBeside (first_leaf height index) left (left + 1)
     × IsBlockBeside (first_leaf height index) right (right + 1)
 unfolding above first_leaf side_at
-far zero left right index side from to = grind arith
-far (suc zero) left right index side from to = grind arith
-far (suc (suc zero)) left right index side from to = grind arith
-far (suc (suc (suc zero))) left right index side from to = absurd (omega arith)
-far (suc (suc (suc (suc height)))) left right index side from to = absurd (omega arith)
+far height left right index side from to = grind arith
 
 -- a node of some height strictly between two leaves is strictly between the nodes above these
 pub between : (height left right index : ℕ) → left < first_leaf height index →
     first_leaf height index + width height ≤ right → (above height left < index) × (index < above height right)
 between height left right index from to =
-    let first = above_covers height left in
-    let last = above_covers height right in (
-      elim (cases_lt (above height left) index) [
-        | inl lt ↦ lt
-        | inr ge ↦ elim (cases_lt index (above height left)) [
-          | inl below ↦ grind (arith, first_leaf-lt height index (above height left) below, width-pos height)
-          | inr same ↦ grind arith
-        ]
-      ],
-      elim (cases_lt index (above height right)) [
-        | inl lt ↦ lt
-        | inr ge ↦ elim (cases_lt (above height right) index) [
-          | inl past ↦ grind (arith, first_leaf-lt height (above height right) index past, width-pos height)
-          | inr same ↦ grind arith
-        ]
-      ],
+    grind (
+      arith,
+      above_covers height left,
+      above_covers height right,
+      first_leaf-lt height index (above height left),
+      first_leaf-lt height (above height right) index,
+      width-pos height,
     )
 
 -- and the other way round
 not_between : (height left right index : ℕ) →
     (first_leaf height index ≤ left) ⊎ (right < first_leaf height index + width height) →
     (index ≤ above height left) ⊎ (above height right ≤ index)
-not_between height left right index out = elim (cases_lt (above height left) index) [
-  | inl past ↦ elim (cases_lt index (above height right)) [
-    | inl below ↦ grind (
+not_between height left right index out =
+    grind (
       arith,
       above_covers height left,
-      first_leaf-lt height (above height left) index past,
       above_covers height right,
-      first_leaf-lt height index (above height right) below,
+      first_leaf-lt height (above height left) index,
+      first_leaf-lt height index (above height right),
     )
-    | inr ge ↦ inr ge
-  ]
-  | inr le ↦ inl le
-]
 
 node_between : {top height first last index : ℕ} → IsNode top height first → IsNode top height last → first < index →
     index < last → IsNode top height index
@@ -140,42 +88,19 @@ pub level_written : {old nodes new : List Summary} {top height left right : ℕ}
     (above height left) (above height right) (side_at height) node → AreWrittenUnder old new top (suc height) left
     right value
 level_written {nodes} {new} {top} {height} {left} {right} {value} left_is right_is long node_is under level =
-    let first = above height left in
-    let last = above height right in
     let within : height ≤ top = above_within height right_is (omega arith) in
     let first_node = above_is top height left left_is within in
     let last_node = above_is top height right right_is within in
     let other : (low index : ℕ) → IsNode top low index → low ≢ height → node_at new index ≡ node_at nodes index =
-    λ low index is ne. elim (cases_lt first index) [
-      | inl past ↦ elim (cases_lt index last) [
-        | inl before ↦ absurd (ne (same_height is
-            (node_between first_node last_node past before)))
-        | inr ge ↦ level.outside index (inr ge)
-      ]
-      | inr le ↦ level.outside index (inl le)
-    ] in
+    λ low index is ne.
+    let out : (index ≤ above height left) ⊎ (above height right ≤ index) =
+    grind (arith, same_height {other = height} is, node_between {index = index} first_node last_node) in
+    level.outside index out in
     record {
       outside = grind (arith, not_between);
       inside = λ low index lt is from to. elim (cases_eq low height) [
-        | inl same ↦
-            let at_from : left < first_leaf height index = subst (λ n. left < first_leaf n index) same from in
-            let at_to : first_leaf height index + width height ≤ right =
-            subst (λ n. first_leaf n index + width n ≤ right) same to in
-            let here = between height left right index at_from at_to in
-            subst (λ n. (node_at new index ≡ summary (replicate (256 * width n) value))
-            ⊎ ((n < 3) × IsBlockBeside (first_leaf n index) left (left + 1)
-            × IsBlockBeside (first_leaf n index) right (right + 1))) (sym same)
-            (elim (level.inside index here.0 here.1) [
-              | inl is_node ↦ inl (is_node ∙ node_is)
-              | inr apart ↦ inr (far height left right index apart.0 apart.1 apart.2)
-            ])
-        | inr ne ↦ elim (under.inside low index (elim (cases_lt low height) [
-          | inl less ↦ less
-          | inr ge ↦ absurd (ne (omega arith))
-        ]) is from to) [
-          | inl written ↦ inl (other low index is ne ∙ written)
-          | inr apart ↦ inr apart
-        ]
+        | inl same ↦ (let here = between low left right index from to in grind (arith, far))
+        | inr ne ↦ grind arith
       ];
     }
 
@@ -193,21 +118,11 @@ none_between : (low height left right index : ℕ) → height ≤ low → above 
     left < first_leaf low index → first_leaf low index + width low ≤ right → ⊥
 unfolding first_leaf width
 none_between zero height left right index le near from to =
-    omega (
-      arith,
-      between height left right index (subst (λ n. left < first_leaf n index)
-          (let e : 0 ≡ height = omega arith in e) from) (subst (λ n. first_leaf n index + width n ≤ right)
-          (let e : 0 ≡ height = omega arith in e) to),
-    )
-none_between (suc low) height left right index le near from to = elim (cases_eq (suc low) height) [
-  | inl same ↦
-      let here = between height left right index (subst (λ n. left < first_leaf n index) same from)
-      (subst (λ n. first_leaf n index + width n ≤ right) same to) in
-      absurd (omega (arith, here.0, here.1))
-  | inr ne ↦ none_between low height left right (2 * index) (elim (cases_lt low height) [
-    | inl lt ↦ absurd (ne (omega arith))
-    | inr ge ↦ ge
-  ]) near from (omega (arith, width-pos low))
+    let same : height ≡ 0 = omega arith in
+    absurd (omega (arith, between 0 left right index from to, rw same at near))
+none_between (suc low) height left right index le near from to = elim (cases_eq height (suc low)) [
+  | inl same ↦ absurd (omega (arith, between (suc low) left right index from to, rw same at near))
+  | inr ne ↦ none_between low height left right (2 * index) (omega arith) near from (omega (arith, width-pos low))
 ]
 
 pub written_between : {old new : List Summary} {top height left right : ℕ} {value : Bool} → above height right ≤ above
@@ -216,10 +131,17 @@ pub written_between : {old new : List Summary} {top height left right : ℕ} {va
 written_between near under = grind (arith, none_between)
 
 -- The nodes below a block.
-pub block_written : {old one two new : List Summary} {block : ℕ} {value : Bool} {leaf pair half : Summary} → 1 ≤ block
-    → leaf ≡ summary (replicate 256 value) → pair ≡ summary (replicate 512 value) → half ≡ summary (replicate 1024
-    value) → IsWritten old one (8 * block) (8 * block + 8) leaf → IsWritten one two (4 * block) (4 * block + 4) pair →
-    IsWritten two new (2 * block) (2 * block + 2) half → IsBlockWritten old new block value
+outside_block : {old one two new : List Summary} {block : ℕ} {leaf pair half : Summary} →
+    IsWritten old one (8 * block) (8 * block + 8) leaf → IsWritten one two (4 * block) (4 * block + 4) pair →
+    IsWritten two new (2 * block) (2 * block + 2) half → (index : ℕ) → index / 8 ≢ block → index / 4 ≢ block →
+    index / 2 ≢ block → node_at new index ≡ node_at old index
+outside_block first second third index not_leaf not_pair not_half = grind arith
+
+pub block_written : {old one two new : List Summary} {block : ℕ} {value : Bool} {leaf pair half : Summary} →
+    1 ≤ block → leaf ≡ summary (replicate 256 value) → pair ≡ summary (replicate 512 value) →
+    half ≡ summary (replicate 1024 value) → IsWritten old one (8 * block) (8 * block + 8) leaf →
+    IsWritten one two (4 * block) (4 * block + 4) pair → IsWritten two new (2 * block) (2 * block + 2) half →
+    IsBlockWritten old new block value
 block_written {block} some leaf_is pair_is half_is first second third = record {
   same_length = third.same_length ∙ (second.same_length ∙ first.same_length);
   leaves = λ index at. third.outside index nothing_free (inr (omega arith))
@@ -228,26 +150,5 @@ block_written {block} some leaf_is pair_is half_is first second third = record {
   pairs = λ index at. third.outside index nothing_free (inr (omega arith))
       ∙ (second.inside index nothing_free (omega arith) (omega arith) ∙ pair_is);
   halves = λ index at. third.inside index nothing_free (omega arith) (omega arith) ∙ half_is;
-  outside = λ index not_leaf not_pair not_half.
-      third.outside index nothing_free (elim (cases_lt index (2 * block)) [
-        | inl lt ↦ inl lt
-        | inr ge ↦ inr (elim (cases_lt index (2 * block + 2)) [
-          | inl lt ↦ absurd (not_half (omega arith))
-          | inr past ↦ past
-        ])
-      ])
-      ∙ (second.outside index nothing_free (elim (cases_lt index (4 * block)) [
-        | inl lt ↦ inl lt
-        | inr ge ↦ inr (elim (cases_lt index (4 * block + 4)) [
-          | inl lt ↦ absurd (not_pair (omega arith))
-          | inr past ↦ past
-        ])
-      ])
-      ∙ first.outside index nothing_free (elim (cases_lt index (8 * block)) [
-        | inl lt ↦ inl lt
-        | inr ge ↦ inr (elim (cases_lt index (8 * block + 8)) [
-          | inl lt ↦ absurd (not_leaf (omega arith))
-          | inr past ↦ past
-        ])
-      ]));
+  outside = outside_block first second third;
 }

@@ -12,6 +12,7 @@ pub const WORDS: usize = 64;
 
 /// How many words are free in a row from the front of a bitmap on.
 #[inline(always)]
+#[tactic(auto, using(crate::proofs::Bitmaps::front_of))]
 pub(crate) fn front(bits: u64) -> u32
     ensures { result ≡ front_run (words_of_bits bits) }
 {
@@ -20,6 +21,7 @@ pub(crate) fn front(bits: u64) -> u32
 
 /// How many words are free in a row up to the end of a bitmap.
 #[inline(always)]
+#[tactic(auto, using(crate::proofs::Bitmaps::back_of))]
 pub(crate) fn back(bits: u64) -> u32
     ensures { result ≡ back_run (words_of_bits bits) }
 {
@@ -27,6 +29,7 @@ pub(crate) fn back(bits: u64) -> u32
 }
 
 /// The number of words of the widest hole of a bitmap.
+#[tactic(auto, using(crate::proofs::Bitmaps::whole))]
 pub(crate) fn longest(bits: u64) -> u32
     ensures { result ≡ widest (words_of_bits bits) }
 {
@@ -45,6 +48,7 @@ pub(crate) fn longest(bits: u64) -> u32
 }
 
 /// The summary of the words of a bitmap.
+#[tactic(auto, using(crate::proofs::Bitmaps::all_of))]
 pub(crate) fn summary(bits: u64) -> Summary
     ensures { result ≡ summary (words_of_bits bits) }
 {
@@ -58,6 +62,7 @@ pub(crate) fn summary(bits: u64) -> Summary
 
 /// Whether a bitmap has a hole of at least `len` words. The free words are counted first, which is quick.
 #[inline(always)]
+#[tactic(auto, using(crate::proofs::Bitmaps::widest_few))]
 pub(crate) fn fits(bits: u64, len: usize) -> bool
     ensures { IsTrue result ↔ (len ≤ widest (words_of_bits bits)) }
 {
@@ -65,6 +70,7 @@ pub(crate) fn fits(bits: u64, len: usize) -> bool
 }
 
 /// Answers where the lowest hole of at least `len` words begins in a bitmap that has one.
+#[tactic(auto, using(crate::proofs::Bitmaps::whole))]
 pub(crate) fn lowest_fit(bits: u64, len: usize) -> usize
     requires some { 1 ≤ len }
     requires fits { len ≤ widest (words_of_bits bits) }
@@ -91,6 +97,7 @@ pub(crate) fn lowest_fit(bits: u64, len: usize) -> usize
 }
 
 /// A bitmap with the words `from..to` free or not free, and the others as they were.
+#[tactic(auto, using(crate::proofs::Bits::masks))]
 pub(crate) fn with_range(bits: u64, from: usize, to: usize, value: bool) -> u64
     requires some { from < to }
     requires within { to ≤ 64 }

@@ -162,6 +162,7 @@ impl<A: Allocator> Holes<A> {
     ///
     /// The answer is None exactly if every hole is shorter; then nothing changes.
     #[inline(always)]
+    #[tactic(auto, using(crate::proofs::Runs::lowest_is_lowest, crate::proofs::Runs::lowest_within))]
     pub fn take(&mut self, len: usize) -> Option<usize>
         requires { 1 ≤ len }
         ensures lowest { IfSome result (IsLowestFit self.old.free len) }
@@ -272,8 +273,8 @@ impl<A: Allocator> Holes<A> {
 
     /// The lowest free word, or the number of words if none is free.
     ///
-    /// After a `take` that answered None it costs one look if a word is free. After other calls it may look at all words,
-    /// 64 at a time.
+    /// After a `take` that answered None it costs one look if a word is free. After other calls it may look at all
+    /// words, 64 at a time.
     pub fn lowest_free(&self) -> usize
         ensures { result ≡ lowest_free self.now.free }
     {
@@ -299,6 +300,7 @@ impl<A: Allocator> Holes<A> {
     }
 
     /// The number of words of the region, free or not.
+    #[tactic(auto, using(crate::proofs::Bits::lengths))]
     pub fn size(&self) -> usize
         ensures { result ≡ length self.now.free }
     {

@@ -61,6 +61,7 @@ fn fill_bitmap(bits: &mut [u64], index: usize, from: usize, to: usize, value: bo
 }
 
 /// Makes all words of the bitmaps `first..end` free or not free.
+#[tactic(auto, using(crate::proofs::Filling::fills))]
 fn fill_bitmaps(bits: &mut [u64], first: usize, end: usize, value: bool)
     requires order { first ≤ end }
     requires within { end ≤ length bits.old }
@@ -119,6 +120,7 @@ pub(crate) fn give_word(bits: &mut [u64], place: usize)
 
 /// Takes the lowest free word. None is free before the bitmap `near`. The answer is None if this bitmap has none.
 #[inline(always)]
+#[tactic(auto, using(crate::proofs::Near::lowest_near))]
 pub(crate) fn take_lowest(bits: &mut [u64], near: usize) -> Option<usize>
     requires index { near < length bits.old }
     requires small { 64 * length bits.old < 2 ^ 32 }
@@ -139,6 +141,7 @@ pub(crate) fn take_lowest(bits: &mut [u64], near: usize) -> Option<usize>
 }
 
 /// The summary of the words of the bitmaps `first..end`.
+#[tactic(auto, using(crate::proofs::Near::summaries))]
 pub(crate) fn summary(bits: &[u64], first: usize, end: usize) -> Summary
     requires order { first ≤ end }
     requires within { end ≤ length bits.now }
@@ -190,6 +193,7 @@ fn join_leaves(bits: &[u64], nodes: &mut [Summary], first: usize, end: usize)
 }
 
 /// Joins the parts of a node and of each above it, up to the first that doesn't change.
+#[tactic(auto, using(crate::proofs::Joining::steps))]
 fn join_path(nodes: &mut [Summary], index: usize)
     requires within { 2 * index + 1 < length nodes.old }
     ensures { (bits : List ℕ) → IsJoining bits nodes.old index index → IsTree bits nodes.new }
@@ -206,6 +210,7 @@ fn join_path(nodes: &mut [Summary], index: usize)
 }
 
 /// Joins the parts of each node above two of one depth, up to the root or to a node that doesn't change.
+#[tactic(auto, using(crate::proofs::Joining::steps))]
 fn join_above(nodes: &mut [Summary], first: usize, last: usize)
     requires within { 2 * (last / 2) + 1 < length nodes.old }
     requires order { first ≤ last }
@@ -279,6 +284,7 @@ fn open_block(nodes: &mut [Summary], block: usize)
 
 /// Writes the nodes below the block of a leaf if they may be hidden: if all words of the block are free, or none is.
 #[inline(always)]
+#[tactic(auto, using(crate::proofs::Opening::opens))]
 fn open(nodes: &mut [Summary], leaf: usize)
     requires within { leaf < leaf_count nodes.old }
     requires even { length nodes.old ≡ 2 * leaf_count nodes.old }
@@ -347,6 +353,7 @@ pub(crate) fn join_changed(bits: &[u64], nodes: &mut [Summary], changed: Changed
 
 /// The leaves that changed, with some more. If these are too far from the others, or not in one block with them, the
 /// nodes of the others are joined.
+#[tactic(auto, using(crate::proofs::Trees::tree_wider))]
 fn with_more(bits: &[u64], nodes: &mut [Summary], changed: Changed, more: Changed) -> Changed
     requires order { more.first < more.end }
     requires within { more.end ≤ leaf_count nodes.old }
@@ -375,6 +382,7 @@ fn with_more(bits: &[u64], nodes: &mut [Summary], changed: Changed, more: Change
 /// Makes the words `place..place + len` free or not free, which reach from one leaf to another, and joins the nodes
 /// above them. No node below the blocks of these two leaves is hidden.
 #[inline(never)]
+#[tactic(auto, using(crate::proofs::Nodes::leaf_is))]
 fn fill_long(
     bits: &mut [u64],
     nodes: &mut [Summary],
@@ -436,6 +444,7 @@ pub(crate) fn fill(
 }
 
 /// Answers where the lowest hole of at least `len` words begins that the words of the bitmaps `first..end` have.
+#[tactic(auto, using(crate::proofs::Near::looking))]
 pub(crate) fn find_in(bits: &[u64], first: usize, end: usize, len: usize) -> Option<usize>
     requires some { 1 ≤ len }
     requires order { first ≤ end }
@@ -475,6 +484,7 @@ pub(crate) fn find_near(bits: &[u64], near: usize, len: usize) -> Option<usize>
 }
 
 /// Answers where the lowest hole of at least `len` words begins.
+#[tactic(auto, using(crate::proofs::Finding::root_longest))]
 pub(crate) fn find(bits: &[u64], nodes: &[Summary], len: usize) -> Option<usize>
     requires some { 1 ≤ len }
     requires tree { IsTree bits.now nodes.now }
@@ -513,6 +523,7 @@ pub(crate) fn find(bits: &[u64], nodes: &[Summary], len: usize) -> Option<usize>
 }
 
 /// The first bitmap that has a free word, or the first of all if no word is free.
+#[tactic(auto, using(crate::proofs::Finding::lowest_words))]
 fn first_free(bits: &[u64], nodes: &[Summary]) -> usize
     requires { IsTree bits.now nodes.now }
     ensures none_below { NoneBelow bits.now (64 * result) }
@@ -540,6 +551,7 @@ pub(crate) fn later_near(bits: &[u64], nodes: &[Summary], near: usize) -> usize
 }
 
 /// A bitmap before which no word is free once the words `place..place + len` were taken. None was free before `near`.
+#[tactic(auto, using(crate::proofs::Bitmaps::lowest_bits))]
 pub(crate) fn near_after(bits: &[u64], near: usize, place: usize, len: usize) -> usize
     requires index { near < length bits.now }
     requires some { 1 ≤ len }
@@ -567,6 +579,7 @@ pub(crate) fn is_free(bits: &[u64], word: usize) -> bool
 }
 
 /// How many holes begin in the first `size` words.
+#[tactic(auto, using(crate::proofs::Counts::counts))]
 pub(crate) fn count(bits: &[u64], size: usize) -> usize
     ensures { result ≡ hole_count (words_from (word_at bits.now) 0 size) }
 {

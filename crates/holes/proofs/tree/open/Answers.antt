@@ -1,16 +1,11 @@
-use Rattle.std.proofs.Common.{inl, inr, arith, refl, sym, ◌∙◌}
-use Rattle.std.proofs.lemmas.Bool.{true≢false}
-use Rattle.holes.proofs.Opening.{opened, open_already, block_within}
+use Rattle.std.proofs.Common.{inl, inr, arith, refl}
+use Rattle.holes.proofs.Opening.{opened, open_already}
 use Rattle.holes.proofs.tree.open.Goals as goal
 use Rattle.holes.proofs.tree.open.Goals.{then-node-via-then-node, then-node-via-else-node+then-node-eq0}
 
 pub returns-then-block-eq0 : goal.returns-then-block-eq0
 returns-then-block-eq0 c =
     open_already c.args.nodes.now c.args.leaf 0 c.requires.within (omega arith) (λ some alike. absurd (omega arith))
-
-pub open_block-requires-clause-within : goal.open_block-requires-clause-within
-open_block-requires-clause-within c =
-    block_within c.args.nodes.now c.args.leaf c.requires.within c.requires.even c.requires.power (omega arith)
 
 pub returns-then-node : goal.returns-then-node
 returns-then-node c =
@@ -19,10 +14,3 @@ returns-then-node c =
       | then-node-via-then-node w ↦ inl w.if-node.true
       | then-node-via-else-node+then-node-eq0 w ↦ inr w.if-node-eq0.true
     ]) c.open_block.ensures
-
-pub returns-else-node-eq0 : goal.returns-else-node-eq0
-returns-else-node-eq0 c =
-    open_already c.args.nodes.now c.args.leaf _ c.requires.within refl (λ some alike. elim alike [
-      | inl whole ↦ absurd (true≢false (sym whole ∙ c.if-node.false))
-      | inr none ↦ c.if-node-eq0.false none
-    ])
