@@ -1,14 +1,16 @@
 -- Lemmas on the words below the lowest free one: the blocks there are packed already.
-use Rattle.std.proofs.Common.{◌≡◌, ℕ, zero, suc, ◌+◌, ◌<◌, ◌≤◌, Bool, true, false, List, [], ◌∷◌, length, Some}
-use Rattle.std.proofs.Common.{is_some, inl, inr, refl, sym, ap, subst, ◌∙◌, arith}
+use Rattle.std.proofs.Common.{◌≡◌, ℕ, zero, suc, ◌+◌, ◌<◌, ◌≤◌, Bool, true, false, List, [], ◌∷◌, length, Some, is_some}
+use Rattle.std.proofs.Common.{inl, inr, refl, sym, ap, subst, ◌∙◌, arith}
 use Rattle.std.proofs.lemmas.Bool.{cases_lt}
 use Rattle.holes.specs.FreeWords.{Region, is_free, lowest_free}
 use Rattle.block_memory.specs.Table.{value_at}
-use Rattle.block_memory.specs.Layout.{PlacedBlock, Layout, Covers, Begins, place_of, covered_of}
+use Rattle.block_memory.specs.Layout.{PlacedBlock, Layout, Begins, place_of, covered_of}
 use Rattle.block_memory.specs.Region.{IsRegion}
-use Rattle.block_memory.proofs.Lists.{true-not_false}
-use Rattle.block_memory.proofs.PackLemmas.{IsPacking, IsPacking-start, IsPacking-moved}
-use Rattle.block_memory.proofs.SlideLemmas.{after_no_move}
+use Rattle.block_memory.proofs.PackLemmas.{IsPacking, IsPacking-start, IsPacking-moved, IsPacking-block, ArePacked-end}
+use Rattle.block_memory.proofs.PackLemmas.{IsPacking-inside, IsPacking-skip, begins-some, moved_within, slide_clear}
+use Rattle.block_memory.proofs.SlideLemmas.{after_no_move, is_gap, is_slid, is_sliding, place_inside, to_front}
+use Rattle.block_memory.proofs.SlideLemmas.{widest-ge}
+use Rattle.block_memory.proofs.FreeLemmas.{has_room}
 
 pub lowest-within : (free : List Bool) → lowest_free free ≤ length free
 lowest-within [] = omega arith
@@ -38,15 +40,10 @@ module _ (layout : Layout) (holes : Region) (used : ℕ) (r : IsRegion layout ho
   ends_below : (n : ℕ) (p : PlacedBlock) → value_at layout.slots n ≡ Some p → 0 < p.len
       → p.place < lowest_free holes.free → p.place + p.len ≤ lowest_free holes.free
   ends_below n p there some before =
-      elim (cases_lt (lowest_free holes.free) (p.place + p.len)) [
-        | inr ends ↦ ends
-        | inl across ↦
-            let covers : Covers layout.slots n (lowest_free holes.free) =
-            record { block = p; there = there; from = omega arith; below = across } in
-            let within = (r.within n p there).0 in
-            absurd (true-not_false (is_free holes.free (lowest_free holes.free))
-            (lowest-is_free holes.free (omega (arith, within, r.same_size))) (r.cover.covered n _ covers))
-      ]
+      let covered = λ (across : lowest_free holes.free < p.place + p.len). r.cover.covered n (lowest_free holes.free)
+      (record { block = p; there = there; from = omega arith; below = across }) in
+      let within = (r.within n p there).0 in
+      grind (arith, lowest-is_free)
 
   pass : (place : ℕ) → place < lowest_free holes.free → IsPacking layout layout place place used
       → IsPassed layout used (lowest_free holes.free) place
@@ -59,10 +56,8 @@ module _ (layout : Layout) (holes : Region) (used : ℕ) (r : IsRegion layout ho
       let from = covered.covers.from in
       let below = covered.covers.below in
       let some : 0 < p.len = omega arith in
-      let here : p.place ≡ place = elim (i.sides n p there some) [
-        | inl packed ↦ absurd (omega arith)
-        | inr after ↦ omega arith
-      ] in
+      let sides = i.sides n p there some in
+      let here : p.place ≡ place = omega arith in
       let begins : Begins layout.slots n place = record { block = p; there = there; here = here; some = some } in
       let stays = after_no_move layout n place (ap is_some there) (ap place_of there ∙ here) in
       let ends = ends_below n p there some (omega arith) in
@@ -102,3 +97,11 @@ pub record IsBegun (layout : Layout) (used front : ℕ) : Type 0 where
 pub is_begun : {layout : Layout} {holes : Region} {used front : ℕ} → IsRegion layout holes used → front ≡ lowest_free
     holes.free → IsBegun layout used front
 is_begun {layout} {holes} {used} r is = grind (arith, IsPacking-lowest layout holes used r, lowest-within holes.free)
+
+-- ---- what proofs of functions use
+
+pub ruleset for_pack_blocks = (ArePacked-end, slide_clear, moved_within, begins-some)
+
+pub ruleset for_slide_make_room = (moved_within, begins-some, is_gap, place_inside, IsPacking-block)
+
+pub ruleset for_slide_down = (has_room, is_sliding, is_slid, to_front, after_no_move)

@@ -1,7 +1,6 @@
 -- Lemmas on the places of blocks.
 use Rattle.std.proofs.Common.{◌≡◌, ◌≢◌, ◌⊎◌, ℕ, ◌+◌, ◌<◌, ◌≤◌, List, length, take, drop, slice_index_or, slice_set}
-use Rattle.std.proofs.Common.{Option, Some, None, is_some, inl, inr, refl, sym, ap, ◌∙◌, arith, rules}
-use Rattle.std.proofs.lemmas.Bool.{cases_eq}
+use Rattle.std.proofs.Common.{Option, Some, None, is_some, refl, sym, ◌∙◌, arith, rules}
 use Rattle.std.proofs.lemmas.List.{get_or-take, get_or-drop, length-take-le, length-drop, ext_get_or, get_or-set_same}
 use Rattle.std.proofs.lemmas.List.{get_or-set_other}
 use Rattle.std.proofs.Math.ListN.{get_or-map}
@@ -9,7 +8,7 @@ use Rattle.block_memory.specs.Content.{block_at, block_count, words_at as conten
 use Rattle.block_memory.specs.Table.{value_at, value_count}
 use Rattle.block_memory.specs.Layout.{PlacedBlock, Covers, IsClear, block_of, content_of, words_at}
 use Rattle.block_memory.specs.Region.{AreApart, AreWithin}
-use Rattle.block_memory.proofs.Lists.{same_some, None≢Some, value_count-map}
+use Rattle.block_memory.proofs.Lists.{same_some, value_count-map}
 
 module _ {X : Type 0} where
   -- as many elements as are there
@@ -68,38 +67,24 @@ Covers-by p there c = grind arith
 pub AreApart-set : (slots : List (Option PlacedBlock)) (n : ℕ) (p : PlacedBlock) → n < length slots → AreApart slots
     → IsClear slots n p.place p.len → AreApart (slice_set slots n (Some p))
 AreApart-set slots n p within apart clear k m word a b =
-    elim (Covers-set slots n p within a) [
-      | inl here ↦ elim (Covers-set slots n p within b) [
-        | inl too ↦ here.0 ∙ sym too.0
-        | inr other ↦ absurd (other.0 (clear m word here.1.0 here.1.1 other.1))
-      ]
-      | inr other ↦ elim (Covers-set slots n p within b) [
-        | inl here ↦ absurd (other.0 (clear k word here.1.0 here.1.1 other.1))
-        | inr too ↦ apart k m word other.1 too.1
-      ]
-    ]
+    let first = Covers-set slots n p within a in
+    let second = Covers-set slots n p within b in
+    let both = apart k m word in
+    let of_first = clear k word in
+    let of_second = clear m word in
+    grind arith
 
 -- blocks that lie in the region, and one that is put into it
 pub AreWithin-set : (slots : List (Option PlacedBlock)) (size n : ℕ) (p : PlacedBlock) → n < length slots
     → AreWithin slots size → (p.place + p.len ≤ size) × (p.len ≤ length p.words)
     → AreWithin (slice_set slots n (Some p)) size
 AreWithin-set slots size n p within all fits k q there =
-    elim (cases_eq k n) [
-      | inl same ↦ let is : q ≡ p =
-          same_some q p (sym there ∙ (ap (value_at (slice_set slots n (Some p))) same
-          ∙ value_at-set_same slots n (Some p) within)) in rw is fits
-      | inr other ↦ all k q (sym (value_at-set_other slots n k (Some p) other) ∙ there)
-    ]
+    let found = all k q in grind (arith, same_some, slice_set, value_at-set_same, value_at-set_other)
 
 pub AreWithin-set_none : (slots : List (Option PlacedBlock)) (size n : ℕ) → n < length slots → AreWithin slots size
     → AreWithin (slice_set slots n None) size
 AreWithin-set_none slots size n within all k q there =
-    elim (cases_eq k n) [
-      | inl same ↦
-          absurd (None≢Some q (sym (value_at-set_same slots n None within)
-          ∙ (ap (value_at (slice_set slots n None)) (sym same) ∙ there)))
-      | inr other ↦ all k q (sym (value_at-set_other slots n k None other) ∙ there)
-    ]
+    let found = all k q in grind (arith, value_at-set_same, slice_set, value_at-set_other)
 
 -- what the region contains at a number
 pub block_at-content_of : (slots : List (Option PlacedBlock)) (n : ℕ)

@@ -1,6 +1,7 @@
 -- Lemmas on values that may be missing, and on lists of them.
 use Rattle.std.proofs.Common.{◌≡◌, ℕ, ◌+◌, ◌<◌, List, [], ◌∷◌, Bool, length, map, slice_set, Option, Some, None}
-use Rattle.std.proofs.Common.{is_some, IsSome, Vec, true, false, cond, slice_index_or, ◌≤◌, refl, ap, arith}
+use Rattle.std.proofs.Common.{replicate, zero, suc, is_some, IsSome, Vec, true, false, cond, slice_index_or, ◌≤◌, refl}
+use Rattle.std.proofs.Common.{ap, arith}
 use Rattle.std.specs.Vec.{with_items}
 use Rattle.std.proofs.lemmas.List.{get_or_past, with_items_is}
 use Rattle.std.proofs.lemmas.List.Sums.{sum_by-set, sum_by-cons}
@@ -24,6 +25,12 @@ pub true-not_false : (b : Bool) → b ≡ true → b ≡ false → ⊥
 true-not_false b t f = cc
 
 module _ {T : Type 0} where
+  -- no number has a value at first
+  pub value_at-none : (most n : ℕ) → value_at {T = T} (replicate most None) n ≡ None
+  value_at-none zero n = refl
+  value_at-none (suc most) zero = refl
+  value_at-none (suc most) (suc n) = value_at-none most n
+
   -- a number with a value is in range
   pub IsSome-in_range : (slots : List (Option T)) (n : ℕ) → IsSome (value_at slots n) → n < length slots
   IsSome-in_range slots n h = grind (arith, get_or_past)

@@ -2,7 +2,7 @@
 use Rattle.std.proofs.Common.{◌≡◌, ◌≢◌, ◌⊎◌, ℕ, zero, suc, ◌+◌, ◌<◌, ◌≤◌, List, [], ◌∷◌, length, slice_set}
 use Rattle.std.proofs.Common.{Option, Some, None, is_some, cond, sum_by, inl, inr, refl, sym, ap, subst, ◌∙◌, arith}
 use Rattle.std.specs.Prelude.{nat_le}
-use Rattle.std.proofs.lemmas.Bool.{cases_eq, cases_lt}
+use Rattle.std.proofs.lemmas.Bool.{cases_lt}
 use Rattle.std.proofs.lemmas.List.Sums.{sum_by-cons, sum_by-set, get_or-le-sum_by}
 use Rattle.std.proofs.Math.Seq.{map-set_same}
 use Rattle.block_memory.specs.Table.{value_at}
@@ -61,29 +61,13 @@ words_from-before place p h = grind arith
 
 words_from-none : (place : ℕ) (o : Option PlacedBlock)
     → ((p : PlacedBlock) → o ≡ Some p → place ≤ p.place → p.len ≡ 0) → words_from place o ≡ 0
-words_from-none place None h = refl
-words_from-none place (Some p) h =
-    elim (cases_lt p.place place) [
-      | inl before ↦ words_from-before place p before
-      | inr behind ↦ words_from-behind place p behind ∙ h p refl behind
-    ]
+words_from-none place o h = grind (arith, words_from-before, words_from-behind)
 
 -- a block counts from two places alike, if none with words lies between them
 words_from-same : (place next : ℕ) (o : Option PlacedBlock) → place ≤ next
     → ((p : PlacedBlock) → o ≡ Some p → 0 < p.len → place ≤ p.place → next ≤ p.place)
     → words_from place o ≡ words_from next o
-words_from-same place next None order h = refl
-words_from-same place next (Some p) order h =
-    elim (cases_lt p.place place) [
-      | inl before ↦ grind arith
-      | inr behind ↦ elim (cases_lt p.place next) [
-        | inr behind_next ↦ grind arith
-        | inl between ↦ words_from-behind place p behind ∙ (elim (cases_lt 0 p.len) [
-          | inl some ↦ absurd (let not_between = h p refl some behind in omega arith)
-          | inr nothing ↦ let none : p.len ≡ 0 = omega arith in none
-        ] ∙ sym (words_from-before next p between))
-      ]
-    ]
+words_from-same place next o order h = grind (arith, words_from-behind, words_from-before)
 
 -- at first all blocks lie as before
 pub IsPacking-start : (layout : Layout) (used : ℕ) → AreApart layout.slots → AreWithin layout.slots layout.size
@@ -114,10 +98,8 @@ IsPacking-skip {now} {place} i none =
       apart = i.apart;
       within = i.within;
       front = i.front;
-      sides = λ n p there some. elim (i.sides n p there some) [
-        | inl packed_already ↦ inl packed_already
-        | inr behind ↦ inr (further n p there some behind)
-      ];
+      sides = λ n p there some.
+          let sides = i.sides n p there some in let next = further n p there some in grind arith;
       order = let o = i.order in omega arith;
       all = let same =
           same_sums (words_from place) (words_from (place + 1)) now.slots
@@ -129,10 +111,8 @@ IsPacking-skip {now} {place} i none =
     further : (n : ℕ) (p : PlacedBlock) → value_at now.slots n ≡ Some p → 0 < p.len → place ≤ p.place
         → place + 1 ≤ p.place
     further n p there some behind =
-        elim (cases_eq p.place place) [
-          | inl here ↦ absurd (none n (record { block = p; there = there; here = here; some = some }))
-          | inr other ↦ let o = other in omega arith
-        ]
+        let begins = λ (here : p.place ≡ place).
+        none n (record { block = p; there = there; here = here; some = some }) in grind arith
 
 -- the block that begins at the place is to be moved
 module _ (before now : Layout) (packed place used n : ℕ) (p : PlacedBlock)
@@ -142,12 +122,10 @@ module _ (before now : Layout) (packed place used n : ℕ) (p : PlacedBlock)
   beyond : (k : ℕ) (q : PlacedBlock) → k ≢ n → value_at now.slots k ≡ Some q → 0 < q.len → place ≤ q.place
       → place + p.len ≤ q.place
   beyond k q other found words behind =
-      elim (cases_lt q.place (place + p.len)) [
-        | inr past ↦ past
-        | inl between ↦ absurd (other (i.apart k n q.place
-            (record { block = q; there = found; from = omega arith; below = omega arith })
-            (record { block = p; there = there; from = omega arith; below = omega arith })))
-      ]
+      let apart = λ (between : q.place < place + p.len). i.apart k n q.place
+      (record { block = q; there = found; from = omega arith; below = omega arith })
+      (record { block = p; there = there; from = omega arith; below = omega arith }) in
+      grind arith
 
   -- no other block covers a word that it then covers
   pub slide_clear : IsClear now.slots n packed p.len
@@ -166,21 +144,13 @@ module _ (before now : Layout) (packed place used n : ℕ) (p : PlacedBlock)
   slid_front word h =
       elim (cases_lt word packed) [
         | inr new ↦ record { number = n; covers = Covers-set_here now.slots slid_block in_range new h }
-        | inl old ↦ kept (i.front word old) old
+        | inl old ↦
+            let c = i.front word old in
+            let differs : c.number ≢ n = λ same.
+            let by = Covers-by p there (subst (λ (k : ℕ). Covers now.slots k word) same c.covers) in
+            let order = i.order in omega (arith, by) in
+            record { number = c.number; covers = Covers-set_other n (Some slid_block) differs c.covers }
       ]
-    where
-      kept : IsCovered now.slots word → word < packed → IsCovered (slice_set now.slots n (Some slid_block)) word
-      kept c old =
-          record {
-            number = c.number;
-            covers =
-                Covers-set_other n (Some slid_block)
-                (λ same. not_here (subst (λ (k : ℕ). Covers now.slots k word) same c.covers)) c.covers;
-          }
-        where
-          not_here : Covers now.slots n word → ⊥
-          not_here covers = let by = Covers-by p there covers in let from = by.0 in let o =
-              i.order in omega arith
 
   slid_sides : (k : ℕ) (q : PlacedBlock) → value_at (slice_set now.slots n (Some slid_block)) k ≡ Some q
       → 0 < q.len → (q.place + q.len ≤ packed + p.len) ⊎ (place + p.len ≤ q.place)
@@ -192,11 +162,7 @@ module _ (before now : Layout) (packed place used n : ℕ) (p : PlacedBlock)
       (slice_set now.slots n None)
   others_alike =
       same_sums (words_from place) (words_from (place + p.len)) (slice_set now.slots n None)
-      (λ k h. elim (cases_eq k n) [
-        | inl same ↦ rw same (rw (value_at-set_same now.slots n None in_range) refl)
-        | inr other ↦
-            grind (arith, value_at-set_other, words_from-same, beyond)
-      ])
+      (λ k h. grind (arith, value_at-set_same, in_range, value_at-set_other, words_from-same, beyond, words_from))
 
   slid_rest : rest (place + p.len) (slice_set now.slots n (Some slid_block)) + p.len ≡ rest place
       now.slots
@@ -231,6 +197,12 @@ IsPacking-moved {before} {old} {packed} {place} {used} {n} len i b moved long =
 -- it covers a word at least
 pub begins-some : {slots : List (Option PlacedBlock)} {n place : ℕ} → Begins slots n place → 1 ≤ covered_at slots n
 begins-some b = grind arith
+
+-- it lies in the region
+pub IsPacking-block : {before now : Layout} {packed place used n : ℕ} → IsPacking before now packed place used
+    → Begins now.slots n place → (1 ≤ covered_at now.slots n) × (place + covered_at now.slots n ≤ now.size)
+IsPacking-block {n = n} i b =
+    let inside = i.within n b.block b.there in rw b.there (b.some, omega (arith, inside.0, b.here))
 
 -- its words and those that moved before are within the size
 pub moved_within : {before now : Layout} {packed place used n : ℕ} (moved words : ℕ) → IsPacking before now packed

@@ -1,10 +1,10 @@
 -- Lemmas on the free words of a region: those of the holes, and those of ranges that are kept beside them.
 use Rattle.std.proofs.Common.{◌≡◌, ◌≢◌, ◌⊎◌, ℕ, zero, suc, ◌+◌, ◌<◌, ◌≤◌, Bool, true, false, List, [], ◌∷◌, length}
-use Rattle.std.proofs.Common.{slice_set, Option, Some, None, inl, inr, refl, sym, ap, subst, ◌∙◌, is_some}
-use Rattle.std.proofs.Common.{replicate, arith, rules}
-use Rattle.std.proofs.lemmas.Bool.{cases_eq, cases_lt}
+use Rattle.std.proofs.Common.{slice_set, Option, Some, None, inl, inr, refl, sym, ap, subst, ◌∙◌, is_some, replicate}
+use Rattle.std.proofs.Common.{arith, rules}
+use Rattle.std.proofs.lemmas.Bool.{cases_eq}
 use Rattle.std.specs.Prelude.{IfSome, IfNone}
-use Rattle.std.proofs.lemmas.List.{ext_get_or, map-set, length-map, length-set, get_or_past}
+use Rattle.std.proofs.lemmas.List.{ext_get_or, map-set, length-map, length-set, get_or_past, length-replicate}
 use Rattle.std.proofs.Math.ListN.{get_or-map}
 use Rattle.holes.specs.FreeWords.{Region, is_free, set_range, AllFree, NoneFree, given_to, taken_from, IsLowestFit}
 use Rattle.block_memory.specs.Table.{value_at}
@@ -13,8 +13,8 @@ use Rattle.block_memory.specs.Region.{IsCovered, IsRegion, HasRoom}
 use Rattle.block_memory.specs.Places.{ArePlaces, AreAllEmpty, IsTaken, free_with, slot_of, slots_of, with_kept}
 use Rattle.block_memory.specs.declared.places.WordRange.{WordRange}
 use Rattle.block_memory.proofs.Lists.{same_some, None≢Some, true-not_false, IsSome-in_range}
-use Rattle.block_memory.proofs.LayoutLemmas.{Covers-set, Covers-set_here, Covers-set_other, Covers-set_none}
-use Rattle.block_memory.proofs.LayoutLemmas.{Covers-by, AreApart-set, value_at-set_same, value_at-set_other}
+use Rattle.block_memory.proofs.LayoutLemmas.{Covers-set, Covers-set_here, Covers-set_other, Covers-set_none, Covers-by}
+use Rattle.block_memory.proofs.LayoutLemmas.{AreApart-set, value_at-set_same, value_at-set_other}
 use Rattle.block_memory.proofs.FreeLemmas.{length-set_range, is_free-set_inside, is_free-still, is_free-outside}
 use Rattle.block_memory.proofs.FreeLemmas.{is_free-set_alike, in_or_out}
 
@@ -29,6 +29,10 @@ later o kept size inside n p there = inside (suc n) p there
 cover_later : (o : Option PlacedBlock) {kept : List (Option PlacedBlock)} {n word : ℕ} → Covers kept n word → Covers
     (o ∷ kept) (suc n) word
 cover_later o c = grind arith
+
+cover_back : {o : Option PlacedBlock} {kept : List (Option PlacedBlock)} {n word : ℕ} → Covers (o ∷ kept) (suc n) word
+    → Covers kept n word
+cover_back c = record { block = c.block; there = c.there; from = c.from; below = c.below }
 
 pub length-free_with : (free : List Bool) (kept : List (Option PlacedBlock)) → AreInside kept (length free)
     → length (free_with free kept) ≡ length free
@@ -45,8 +49,7 @@ free_with-covered : (free : List Bool) (kept : List (Option PlacedBlock)) → Ar
 free_with-covered free [] inside n word c = absurd (None≢Some c.block c.there)
 free_with-covered free (None ∷ kept) inside zero word c = absurd (None≢Some c.block c.there)
 free_with-covered free (None ∷ kept) inside (suc n) word c =
-    free_with-covered free kept (later None kept (length free) inside) n word
-    (record { block = c.block; there = c.there; from = c.from; below = c.below })
+    free_with-covered free kept (later None kept (length free) inside) n word (cover_back c)
 free_with-covered free (Some p ∷ kept) inside zero word c =
     let long = length-free_with free kept (later (Some p) kept (length free) inside) in
     let fits = inside zero p refl in
@@ -56,8 +59,7 @@ free_with-covered free (Some p ∷ kept) inside (suc n) word c =
     let long = length-free_with free kept (later (Some p) kept (length free) inside) in
     let fits = inside zero p refl in
     is_free-still (free_with free kept) p.place p.len word true (omega arith)
-    (free_with-covered free kept (later (Some p) kept (length free) inside) n word
-    (record { block = c.block; there = c.there; from = c.from; below = c.below }))
+    (free_with-covered free kept (later (Some p) kept (length free) inside) n word (cover_back c))
 
 -- every other word is as in the holes
 free_with-bare : (free : List Bool) (kept : List (Option PlacedBlock)) → AreInside kept (length free) → (word : ℕ)
@@ -81,6 +83,11 @@ free_with-none free [] none = refl
 free_with-none free (None ∷ kept) none = free_with-none free kept (λ n. none (suc n))
 free_with-none free (Some p ∷ kept) none = absurd (None≢Some p (sym (none zero)))
 
+not_first : (o : Option PlacedBlock) {kept : List (Option PlacedBlock)} {word : ℕ}
+    → ((n : ℕ) → Covers kept n word → ⊥) → (Covers (o ∷ kept) zero word → ⊥) → (n : ℕ) → Covers (o ∷ kept) n word → ⊥
+not_first o bare first zero c = first c
+not_first o bare first (suc n) c = bare n (cover_back c)
+
 -- a word is in a range that is kept, or in none
 covered_or_bare : (kept : List (Option PlacedBlock)) (word : ℕ)
     → IsCovered kept word ⊎ ((n : ℕ) → Covers kept n word → ⊥)
@@ -93,27 +100,15 @@ covered_or_bare (o ∷ kept) word =
   where
     by_first : (first : Option PlacedBlock) → ((n : ℕ) → Covers kept n word → ⊥)
         → IsCovered (first ∷ kept) word ⊎ ((n : ℕ) → Covers (first ∷ kept) n word → ⊥)
-    by_first None bare = inr not_one
-      where
-        not_one : (n : ℕ) → Covers (None ∷ kept) n word → ⊥
-        not_one zero c = None≢Some c.block c.there
-        not_one (suc n) c = bare n (record { block = c.block; there = c.there; from = c.from; below = c.below })
+    by_first None bare = inr (not_first None bare (λ c. None≢Some c.block c.there))
     by_first (Some p) bare =
-        elim (cases_lt word p.place) [
-          | inl before ↦ inr (not_one (λ from to. omega arith))
-          | inr from ↦ elim (cases_lt word (p.place + p.len)) [
-            | inl to ↦ inl (record {
-              number = zero;
-              covers = record { block = p; there = refl; from = from; below = to };
-            })
-            | inr behind ↦ inr (not_one (λ from to. omega arith))
-          ]
+        elim (in_or_out p.place p.len word) [
+          | inl here ↦ inl (record {
+            number = zero;
+            covers = record { block = p; there = refl; from = here.0; below = here.1 };
+          })
+          | inr out ↦ inr (not_first (Some p) bare (λ c. let by = Covers-by p refl c in out by.0 by.1))
         ]
-      where
-        not_one : (p.place ≤ word → word < p.place + p.len → ⊥) → (n : ℕ) → Covers (Some p ∷ kept) n word → ⊥
-        not_one outside zero c = let by = Covers-by p refl c in outside by.0 by.1
-        not_one outside (suc n) c =
-            bare n (record { block = c.block; there = c.there; from = c.from; below = c.below })
 
 -- words that are free in the ranges that are kept, and elsewhere as in the holes
 is_whole : (free all : List Bool) (kept : List (Option PlacedBlock)) → AreInside kept (length free)
@@ -128,6 +123,8 @@ is_whole free all kept inside long covered bare =
           free_with-covered free kept inside c.number word c.covers ∙ sym (covered c.number word c.covers)
       | inr none ↦ free_with-bare free kept inside word none ∙ sym (bare word none)
     ])
+
+ruleset ranges = (length-set_range, is_free-set_inside, is_free-outside, is_free-still, is_free-set_alike)
 
 module _ (holes : Region) (kept : List (Option PlacedBlock)) (a : ArePlaces holes kept) where
   abbrev whole : List Bool
@@ -179,17 +176,7 @@ module _ (holes : Region) (kept : List (Option PlacedBlock)) (a : ArePlaces hole
 
     pub whole-beside : free_with changed.free kept ≡ set_range whole place len value
     whole-beside =
-        is_whole changed.free (set_range whole place len value) kept (λ n p there. (places-beside.within n p there).1)
-        (omega (
-          arith,
-          length-set_range whole place len value (omega (arith, fits, length-whole)),
-          length-whole,
-          long_changed,
-        ))
-        (λ n word c. is_free-outside whole place len word value (omega (arith, fits, length-whole)) (apart n word c)
-        ∙ covered_free n word c)
-        (λ word none. is_free-set_alike whole holes.free place len word value (omega (arith, fits, length-whole)) fits
-        (free_with-bare holes.free kept inside word none))
+        search (rules, arith, ranges, is_whole, long_changed, inside, covered_free, free_with-bare, length-whole)
 
   -- a range is kept at an index at which none was
   module _ (k : ℕ) (p : PlacedBlock) (in_range : k < length kept) (empty : value_at kept k ≡ None) (some : 1 ≤ p.len)
@@ -219,10 +206,7 @@ module _ (holes : Region) (kept : List (Option PlacedBlock)) (a : ArePlaces hole
         (λ word none. is_free-outside whole p.place p.len word true fits
         (λ from to. none k (Covers-set_here kept p in_range from to))
         ∙ free_with-bare holes.free kept inside word
-        (λ n c. none n (Covers-set_other k (Some p) (not_there n word c) c)))
-      where
-        not_there : (n word : ℕ) → Covers kept n word → n ≢ k
-        not_there n word c same = None≢Some c.block (sym empty ∙ (ap (value_at kept) (sym same) ∙ c.there))
+        (λ n c. let differs : n ≢ k = grind arith in none n (Covers-set_other k (Some p) differs c)))
 
   -- the range at an index goes
   module _ (k : ℕ) (p : PlacedBlock) (there : value_at kept k ≡ Some p) where
@@ -276,13 +260,10 @@ module _ (holes : Region) (kept : List (Option PlacedBlock)) (a : ArePlaces hole
         (length-set_range whole p.place p.len false fits_whole ∙ length-whole)
         (λ n word c. is_free-outside whole p.place p.len word false fits_whole (apart_from n word c)
         ∙ covered_free n word (Covers-set_none kept k in_kept c).1)
-        (λ word none. elim (in_or_out p.place p.len word) [
-          | inl here ↦
-              grind (arith, is_free-set_inside, whole, fits_whole, none_free)
-          | inr outside ↦
-              is_free-outside whole p.place p.len word false fits_whole outside
-              ∙ free_with-bare holes.free kept inside word (bare_before word outside none)
-        ])
+        (λ word none.
+        let bare = λ (out : p.place ≤ word → word < p.place + p.len → ⊥).
+        free_with-bare holes.free kept inside word (bare_before word out none) in
+        let taken = none_free word in grind (arith, in_or_out, is_free-set_inside, is_free-outside, fits_whole))
 
     -- or the holes have them
     pub places-returned : ArePlaces (given_to holes p.place p.len) (slice_set kept k None)
@@ -300,13 +281,10 @@ module _ (holes : Region) (kept : List (Option PlacedBlock)) (a : ArePlaces hole
         (λ n q found. (places-returned.within n q found).1)
         (length-whole ∙ sym (length-set_range holes.free p.place p.len true fits_there))
         (λ n word c. covered_free n word (Covers-set_none kept k in_kept c).1)
-        (λ word none. elim (in_or_out p.place p.len word) [
-          | inl here ↦
-              grind (arith, all_free, is_free-set_inside, fits_there)
-          | inr outside ↦
-              free_with-bare holes.free kept inside word (bare_before word outside none)
-              ∙ sym (is_free-outside holes.free p.place p.len word true fits_there outside)
-        ])
+        (λ word none.
+        let bare = λ (out : p.place ≤ word → word < p.place + p.len → ⊥).
+        free_with-bare holes.free kept inside word (bare_before word out none) in
+        let free = all_free word in grind (arith, in_or_out, is_free-set_inside, is_free-outside, fits_there))
 
 -- the ranges that are kept, seen as blocks
 slot_at : (kept : List (Option WordRange)) (n : ℕ) → value_at (slots_of kept) n ≡ slot_of (value_at kept n)
@@ -325,35 +303,17 @@ module _ (holes : Region) (kept : List (Option WordRange)) (empty : AreAllEmpty 
   no_slot : (n : ℕ) → value_at (slots_of kept) n ≡ None
   no_slot n = slot_at kept n ∙ ap slot_of (empty n)
 
-  not_any : (n word : ℕ) → Covers (slots_of kept) n word → ⊥
-  not_any n word c = grind (arith, no_slot)
-
   pub holes-whole : with_kept holes kept ≡ holes
   holes-whole = grind (arith, with_words, free_with-none, no_slot)
 
   pub places-none : length holes.free < holes.most → ArePlaces holes (slots_of kept)
-  places-none room = grind (arith, not_any, no_slot)
-
-pub none_kept : (count n : ℕ) → value_at {T = WordRange} (replicate count None) n ≡ None
-none_kept zero n = refl
-none_kept (suc count) zero = refl
-none_kept (suc count) (suc n) = none_kept count n
+  places-none room = grind (arith, no_slot)
 
 -- the ranges up to an index go, one after another
 pub emptied_next : (kept : List (Option WordRange)) (index : ℕ) → ((n : ℕ) → n < index → value_at kept n ≡ None)
     → (n : ℕ) → n < index + 1 → value_at (slice_set kept index None) n ≡ None
 emptied_next kept index first n below =
-    elim (cases_eq n index) [
-      | inl same ↦ rw same here
-      | inr other ↦ grind (arith, value_at-set_other)
-    ]
-  where
-    here : value_at (slice_set kept index None) index ≡ None
-    here = elim (cases_lt index (length kept)) [
-      | inl within ↦ value_at-set_same kept index None within
-      | inr past ↦
-          get_or_past (slice_set kept index None) index None (omega (arith, length-set kept index None, past))
-    ]
+    grind (arith, value_at-set_other, slice_set, value_at-set_same, get_or_past, length-set)
 
 pub all_emptied : (kept : List (Option WordRange)) (index : ℕ) → length kept ≤ index
     → ((n : ℕ) → n < index → value_at kept n ≡ None) → AreAllEmpty kept
@@ -491,3 +451,19 @@ module _ (before holes : Region) (kept : List (Option WordRange)) (empty : AreAl
             (rw taken (subst (λ (r : Region). IsTaken r (with_kept (taken_from holes place len) kept) place len)
             (holes-whole holes kept empty ∙ same) both.1)),
       )
+
+-- ---- what proofs of functions use
+
+pub ruleset for_give = (length-whole, none_free-there, given_to_holes, kept_next)
+
+pub ruleset for_make_room = (holes-whole, places-none, taken_after_all, room_after)
+
+pub ruleset for_new = (length-replicate, holes-whole, places-none)
+
+pub ruleset for_pack = (holes-whole, places-none)
+
+pub ruleset for_take = (after_take, taken_at_hand)
+
+pub ruleset for_give_all_back = (length-set, emptied_next, all_emptied, holes-whole)
+
+pub ruleset for_give_back = (range_some, range_within, range_taken, returned)

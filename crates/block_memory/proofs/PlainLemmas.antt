@@ -61,3 +61,11 @@ module _ {A : Type 0} where
       → IsPlain size (used - len) (content_of (slice_set slots n None))
   IsPlain-remove size used slots n len b plain there long =
       grind (arith, block_at-plain, used_words-without_block, is_some, words_at-plain, content_of-remove)
+
+-- ---- what proofs of functions use
+
+pub ruleset for_new = (IsPlain-empty, content_of-empty)
+
+pub ruleset for_free = (IsPlain-remove, content_of-remove)
+
+pub ruleset for_place = (IsPlain-insert, content_of-insert)

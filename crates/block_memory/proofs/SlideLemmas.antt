@@ -1,7 +1,8 @@
 -- Lemmas on blocks that slide down: a block goes, and comes again at the front of the lowest hole.
-use Rattle.std.proofs.Common.{◌≡◌, ℕ, zero, suc, ◌+◌, ◌-◌, ◌<◌, ◌≤◌, Bool, true, false, List, [], ◌∷◌, length, drop}
-use Rattle.std.proofs.Common.{slice_set, Some, None, IsSome, inl, inr, refl, sym, ap, ◌∙◌, arith, rules}
-use Rattle.std.proofs.lemmas.Bool.{cases_eq, cases_lt, false≢true}
+use Rattle.std.proofs.Common.{◌≢◌, ◌≡◌, ℕ, zero, suc, ◌+◌, ◌-◌, ◌<◌, ◌≤◌, Bool, true, false, List, [], ◌∷◌, length}
+use Rattle.std.proofs.Common.{drop}
+use Rattle.std.proofs.Common.{slice_set, Some, None, IsSome, inl, inr, refl, ap, ◌∙◌, arith, rules}
+use Rattle.std.proofs.lemmas.Bool.{cases_lt, false≢true}
 use Rattle.std.proofs.lemmas.List.{set-set, set-get_or, length-set, get_or-drop}
 use Rattle.holes.specs.FreeWords.{Region, is_free, AllFree, NoneFree, taken_from, given_to, IsHole, IsLowestFit}
 use Rattle.holes.specs.FreeWords.{front_run, widest}
@@ -45,29 +46,19 @@ front_run-ends (true ∷ free) = grind (arith, front_run-ends free)
 
 hole_from : (free : List Bool) (front len : ℕ) → 1 ≤ len → NoneFree free 0 front → AllFree free front len
     → (hole_len : ℕ) × IsHole free front hole_len × (len ≤ hole_len)
-hole_from free front len some none_below all = (run, hole, wide)
-  where
-    run : ℕ
-    run = front_run (drop front free)
-
-    at_run : (word : ℕ) → is_free (drop front free) word ≡ is_free free (front + word)
-    at_run word = get_or-drop front free word false
-
-    wide : len ≤ run
-    wide =
-        front_run-ge (drop front free) len (λ word from below. at_run word
-        ∙ all (front + word) (omega arith) (omega arith))
-
-    hole : IsHole free front run
-    hole = record {
-      some = let w = wide in omega arith;
+hole_from free front len some none_below all =
+    let wide = front_run-ge (drop front free) len (λ word from below. get_or-drop front free word false
+    ∙ all (front + word) (omega arith) (omega arith)) in
+    let hole : IsHole free front (front_run (drop front free)) = record {
+      some = omega (arith, wide);
       inside = λ word from below.
           let back : front + (word - front) ≡ word = omega arith in
-          ap (is_free free) (sym back) ∙ (sym (at_run (word - front))
-          ∙ front_run-free (drop front free) (word - front) (omega arith));
+          let free_there = front_run-free (drop front free) (word - front) (omega arith) in
+          grind (arith, get_or-drop front free (word - front) false);
       before = λ word next. none_below word (omega arith) (omega arith);
-      behind = sym (at_run run) ∙ front_run-ends (drop front free);
-    }
+      behind = grind (arith, get_or-drop front free (front_run (drop front free)) false, front_run-ends);
+    } in
+    (_, hole, wide)
 
 -- the lowest fit is the front of the lowest hole, if that is wide enough
 fit_is-front : (free : List Bool) (len to front : ℕ) → 1 ≤ len → IsLowestFit free len to → NoneFree free 0 front
@@ -114,12 +105,8 @@ module _ (layout : Layout) (holes : Region) (used n : ℕ) (p : PlacedBlock) (r 
 
   clear_there : IsClear layout.slots n to p.len
   clear_there other word from below c =
-      elim (cases_eq other n) [
-        | inl same ↦ same
-        | inr differs ↦
-            absurd (HasRoom-bare room other word from below
-            (Covers-set_other n None differs c))
-      ]
+      let bare = λ (differs : other ≢ n). HasRoom-bare room other word from below (Covers-set_other n None differs c) in
+      grind arith
 
   region_then : IsRegion (with_slot layout n (Some moved_to)) (taken_from given to p.len) used
   region_then =
@@ -143,9 +130,8 @@ pub record IsSliding (layout : Layout) (holes : Region) (used n place len : ℕ)
   pub leaving : IsLeaving layout holes used n place len
   pub wide : len ≤ widest (given_to holes place len).free
 
-module _ (layout : Layout) (holes : Region) (used n place len : ℕ)
-    (r : IsRegion layout holes used) (some : IsSome (value_at layout.slots n))
-    (here : place ≡ place_at layout.slots n)
+module _ {layout : Layout} {holes : Region} {used place len : ℕ} (n : ℕ) (r : IsRegion layout holes used)
+    (some : IsSome (value_at layout.slots n)) (here : place ≡ place_at layout.slots n)
     (long : len ≡ covered_at layout.slots n) where
   pub is_sliding : IsSliding layout holes used n place len
   is_sliding =

@@ -1,8 +1,7 @@
 -- Lemmas on the places of a table: a write under one key is a write at one number.
 use Rattle.std.proofs.Common.{◌≡◌, ◌≢◌, ℕ, ◌+◌, ◌<◌, ◌≤◌, List, [], ◌∷◌, ◌++◌, length, slice_index_or, slice_index}
-use Rattle.std.proofs.Common.{slice_set, Option, Some, None, is_some, IsSome, unwrap_or, replicate, inl, inr, zero, suc}
-use Rattle.std.proofs.Common.{refl, sym, ap, subst, ◌∙◌, arith, length-append, append_assoc, ◌-◌, rules}
-use Rattle.std.proofs.lemmas.Bool.{cases_eq}
+use Rattle.std.proofs.Common.{slice_set, Option, Some, None, is_some, IsSome, unwrap_or, replicate, zero, suc}
+use Rattle.std.proofs.Common.{refl, sym, ap, ◌∙◌, arith, length-append, append_assoc, ◌-◌, rules}
 use Rattle.std.proofs.lemmas.List.{get_or-set_same, get_or-set_other, get_or_default, get_or-map, get_or_append_left}
 use Rattle.std.proofs.lemmas.List.Folds.{sum_by-replicate}
 use Rattle.std.proofs.lemmas.List.Sums.{sum_by-append, sum_by_push}
@@ -11,7 +10,7 @@ use Rattle.std.proofs.lemmas.List.{ext_get_or}
 use Rattle.slab.specs.Slab.{Slab, get, slab_len, with_value, Updates}
 use Rattle.slab.proofs.SlabLemmas.{Updates-with_value}
 use Rattle.block_memory.specs.Table.{value_at, value_count}
-use Rattle.block_memory.specs.TableInside.{value_under_key, places, all_places, AreKeys, AreVacant, HasRooms, IsTable}
+use Rattle.block_memory.specs.TableInside.{value_under_key, places, all_places, AreKeys, AreVacant, IsTable}
 use Rattle.block_memory.proofs.Lists.{IsSome-in_range, None-not_some, value_count-insert, value_count-remove}
 use Rattle.block_memory.proofs.Lists.{value_count-set}
 
@@ -56,85 +55,31 @@ module _ {T : Type 0} where
       → n < length keys → (m ≡ n → ⊥) → slice_index keys m ≢ slice_index keys n
   different_keys entries keys k m n hm hn d e = grind arith
 
+  ruleset written = (value_at-places, value_under_key-written, value_under_key-other)
+
   -- a write under the key of a number is a write at the number
   places-with_value : (entries : Slab (Option T)) (keys : List ℕ) (n key : ℕ) (v : Option T) → AreKeys entries keys
       → n < length keys → key ≡ slice_index keys n
       → places (with_value entries key v) keys ≡ slice_set (places entries keys) n v
   places-with_value entries keys n key v k h e =
+      let there : IsSome (get entries key) = grind arith in
+      let lengths = length-map keys (value_under_key entries) in
       ext_get_or None (places (with_value entries key v) keys) (slice_set (places entries keys) n v)
-      (length-map keys (value_under_key (with_value entries key v))
-      ∙ sym (length-set (places entries keys) n v ∙ length-map keys (value_under_key entries)))
-      (λ j within. at_number j (subst (λ (i : ℕ). j < i)
-      (length-map keys (value_under_key (with_value entries key v)))
-      within))
-    where
-      at_number : (j : ℕ) → j < length keys → value_at (places (with_value entries key v) keys) j ≡ value_at
-          (slice_set (places entries keys) n v) j
-      at_number j within =
-          let there : IsSome (get entries key) = subst (λ (i : ℕ). IsSome (get entries i)) (sym e) (k.present n h) in
-          let in_places : n < length (places entries keys) =
-          subst (λ (i : ℕ). n < i) (sym (length-map keys (value_under_key entries))) h in
-          elim (cases_eq j n) [
-            | inl same ↦
-                rw same (value_at-places (with_value entries key v) keys n h
-                ∙ (ap (value_under_key (with_value entries key v)) (sym e)
-                ∙ (value_under_key-written entries key v there
-                ∙ sym (get_or-set_same (places entries keys) n v None in_places))))
-            | inr other ↦
-                value_at-places (with_value entries key v) keys j within
-                ∙ (value_under_key-other entries key (slice_index keys j) v there
-                (λ s. different_keys entries keys k j n within h other (s ∙ e))
-                ∙ (sym (value_at-places entries keys j within)
-                ∙ sym (get_or-set_other (places entries keys) n j v None other)))
-          ]
+      (grind (arith, length-map, length-set))
+      (λ j below. grind (arith, written, length-map, different_keys, get_or-set_same, get_or-set_other))
 
-  -- the keys stay in order
-  AreKeys-with_value : (entries : Slab (Option T)) (keys : List ℕ) (key : ℕ) (v : Option T) → AreKeys entries keys
-      → IsSome (get entries key) → AreKeys (with_value entries key v) keys
-  AreKeys-with_value entries keys key v k there = record { present = λ n h. present_still n h; distinct = k.distinct }
-    where
-      present_still : (n : ℕ) → n < length keys → IsSome (get (with_value entries key v) (slice_index keys n))
-      present_still n h =
-          elim (cases_eq (slice_index keys n) key) [
-            | inl same ↦ rw same (ap is_some (Updates-with_value entries key v there).changed)
-            | inr other ↦
-                ap is_some ((Updates-with_value entries key v there).others (slice_index keys n) other)
-                ∙ k.present n h
-          ]
+ruleset vacancies = (length-append, slice_index, get_or_push, get_or_append_left, get_or-set_other, length-set)
 
 -- a value goes to the empty number that comes next
 AreVacant-pop : {T : Type 0} (slots : List (Option T)) (before after : List ℕ) (n : ℕ) (v : T)
     → AreVacant slots before → before ≡ after ++ n ∷ [] → AreVacant (slice_set slots n (Some v)) after
-AreVacant-pop slots before after n v a e =
-    grind (
-      arith,
-      length-append,
-      slice_index,
-      get_or_push,
-      get_or_append_left,
-      get_or-set_other,
-      length-set,
-      value_count-insert,
-    )
+AreVacant-pop slots before after n v a e = grind (arith, vacancies, value_count-insert)
 
 -- a number that had a value comes next
 AreVacant-push : {T : Type 0} (slots : List (Option T)) (before : List ℕ) (n : ℕ) → AreVacant slots before
     → IsSome (value_at slots n) → AreVacant (slice_set slots n None) (before ++ n ∷ [])
 AreVacant-push slots before n a h =
-    grind (
-      arith,
-      IsSome-in_range,
-      length-append,
-      slice_index,
-      get_or_push,
-      get_or_append_left,
-      None-not_some,
-      is_some,
-      get_or-set_other,
-      get_or-set_same,
-      length-set,
-      value_count-remove,
-    )
+    grind (arith, vacancies, IsSome-in_range, None-not_some, is_some, get_or-set_same, value_count-remove)
 
 -- the key that was read at a number
 read_key : (keys : List ℕ) (n key : ℕ) → n < length keys → key ≡ slice_index_or keys n key → key ≡ slice_index keys n
@@ -147,11 +92,6 @@ AreVacant-set slots vacant n v a h =
     grind (arith, IsSome-in_range, slice_index, None-not_some, is_some, get_or-set_other, length-set, value_count-set)
 
 module _ {T : Type 0} where
-  -- the number that comes next is one of the table's
-  next-in_range : (slots : List (Option T)) (before after : List ℕ) (n : ℕ) → AreVacant slots before
-      → before ≡ after ++ n ∷ [] → n < length slots
-  next-in_range slots before after n a e = grind (arith, length-append, slice_index, get_or_push)
-
   key_present : (entries : Slab (Option T)) (keys : List ℕ) (n key : ℕ) → AreKeys entries keys → n < length keys
       → key ≡ slice_index keys n → IsSome (get entries key)
   key_present entries keys n key k h e = grind arith
@@ -159,12 +99,6 @@ module _ {T : Type 0} where
   within_keys : (entries : Slab (Option T)) (keys : List ℕ) (n : ℕ) → n < length (places entries keys)
       → n < length keys
   within_keys entries keys n h = grind (arith, length-map)
-
-  -- there is still room after a write
-  HasRooms-with_value : (entries : Slab (Option T)) (keys : List ℕ) (key : ℕ) (v : Option T)
-      (key_room vacant_room count : ℕ) → IsSome (get entries key) → HasRooms entries keys key_room vacant_room count
-      → HasRooms (with_value entries key v) keys key_room vacant_room count
-  HasRooms-with_value entries keys key v key_room vacant_room count there r = omega (arith, value_count-set)
 
   -- a number that has a value was used
   used : (entries : Slab (Option T)) (keys : List ℕ) (count n : ℕ)
@@ -177,53 +111,51 @@ module _ {T : Type 0} where
       → all_places (with_value entries key v) keys count ≡ slice_set (all_places entries keys count) n v
   all-with_value entries keys count n key v k h is = grind (arith, length-map, places-with_value, set-append_left)
 
-  -- a table after an insertion
-  pub IsTable-insert : (entries : Slab (Option T)) (keys before after : List ℕ)
-      (key_room vacant_room count n key : ℕ) (v : T) → IsTable entries keys before key_room vacant_room count
-      → before ≡ after ++ n ∷ [] → key ≡ slice_index_or keys n key
-      → IsTable (with_value entries key (Some v)) keys after key_room vacant_room count
-  IsTable-insert entries keys before after key_room vacant_room count n key v t e read =
-      let h = within_keys entries keys n (next-in_range (places entries keys) before after n t.are_vacant e) in
-      let is = read_key keys n key h read in
-      let there = key_present entries keys n key t.are_keys h is in
-      record {
-        are_keys = AreKeys-with_value entries keys key (Some v) t.are_keys there;
-        are_vacant =
-            rw (places-with_value entries keys n key (Some v) t.are_keys h is)
-            (AreVacant-pop (places entries keys) before after n v t.are_vacant e);
-        rooms = HasRooms-with_value entries keys key (Some v) key_room vacant_room count there t.rooms;
-      }
-
-  pub places-insert : (entries : Slab (Option T)) (keys before after : List ℕ)
-      (key_room vacant_room count n key : ℕ) (v : T) → IsTable entries keys before key_room vacant_room count
-      → before ≡ after ++ n ∷ [] → key ≡ slice_index_or keys n key
-      → all_places (with_value entries key (Some v)) keys count
-      ≡ slice_set (all_places entries keys count) n (Some v)
-  places-insert entries keys before after key_room vacant_room count n key v t e read =
-      grind (arith, within_keys, next-in_range, all-with_value, read_key)
-
   length-all : (entries : Slab (Option T)) (keys : List ℕ) (count : ℕ) → length keys ≤ count
       → length (all_places entries keys count) ≡ count
   length-all entries keys count within = grind (arith, length-append, length-map, length-replicate)
 
-  -- the empty number that comes next is one of the table's, has an entry, and no value
-  pub next-within : (entries : Slab (Option T)) (keys before after : List ℕ) (key_room vacant_room count n : ℕ)
-      (slots : List (Option T)) → IsTable entries keys before key_room vacant_room count
-      → all_places entries keys count ≡ slots → before ≡ after ++ n ∷ [] → n < length slots
-  next-within entries keys before after key_room vacant_room count n slots t is e =
-      grind (arith, within_keys, next-in_range, length-all)
+  -- a table after a value was written under the key of a number, and the empty numbers with it
+  IsTable-write : {entries : Slab (Option T)} {keys vacant : List ℕ} {key_room vacant_room count : ℕ}
+      (n key : ℕ) (v : Option T) (vacant' : List ℕ) → IsTable entries keys vacant key_room vacant_room count
+      → n < length keys → key ≡ slice_index keys n → AreVacant (slice_set (places entries keys) n v) vacant'
+      → IsTable (with_value entries key v) keys vacant' key_room vacant_room count
+  IsTable-write {entries} {keys} {key_room = key_room} {vacant_room} {count} n key v vacant' t h is are =
+      let k = t.are_keys in
+      let there = key_present entries keys n key k h is in
+      record {
+        are_keys = search (rules, arith, slice_index, is_some, Updates-with_value);
+        are_vacant = rw (places-with_value entries keys n key v t.are_keys h is) are;
+        rooms = let r = t.rooms in omega (arith, value_count-set);
+      }
 
-  pub next-present : (entries : Slab (Option T)) (keys before after : List ℕ) (key_room vacant_room count n key : ℕ)
-      → IsTable entries keys before key_room vacant_room count → before ≡ after ++ n ∷ []
-      → key ≡ slice_index_or keys n key → IsSome (get entries key)
-  next-present entries keys before after key_room vacant_room count n key t e read =
-      grind (arith, within_keys, next-in_range, key_present, read_key)
+  -- what is known of the empty number that comes next, whose key was read
+  pub record IsNext (entries : Slab (Option T)) (keys after : List ℕ) (key_room vacant_room count n key : ℕ)
+      (slots : List (Option T)) : Type 0 where
+    pub in_range : n < length slots
+    pub vacant : value_at slots n ≡ None
+    pub present : IsSome (get entries key)
+    pub table : (v : T) → IsTable (with_value entries key (Some v)) keys after key_room vacant_room count
+    pub inserted : (v : T) → all_places (with_value entries key (Some v)) keys count ≡ slice_set slots n (Some v)
 
-  pub next-vacant : (entries : Slab (Option T)) (keys before after : List ℕ) (key_room vacant_room count n : ℕ)
-      (slots : List (Option T)) → IsTable entries keys before key_room vacant_room count
-      → all_places entries keys count ≡ slots → before ≡ after ++ n ∷ [] → value_at slots n ≡ None
-  next-vacant entries keys before after key_room vacant_room count n slots t is e =
-      grind (arith, slice_index, get_or_push, length-append, value_at-filled)
+  pub next : {entries : Slab (Option T)} {keys before : List ℕ} {key_room vacant_room count key : ℕ}
+      {slots : List (Option T)} (after : List ℕ) (n : ℕ) → IsTable entries keys before key_room vacant_room count
+      → all_places entries keys count ≡ slots → before ≡ after ++ n ∷ [] → key ≡ slice_index_or keys n key
+      → IsNext entries keys after key_room vacant_room count n key slots
+  next {entries} {keys} {before} {key_room} {vacant_room} {count} {key} after n t is e read =
+      let vacant = t.are_vacant in
+      let below : n < length (places entries keys) = grind (arith, length-append, slice_index, get_or_push) in
+      let h = within_keys entries keys n below in
+      let key_is = read_key keys n key h read in
+      let there = key_present entries keys n key t.are_keys h key_is in
+      record {
+        in_range = rw (← is, length-all entries keys count t.rooms.within) (omega (arith, h, t.rooms.within));
+        vacant = rw (← is) (grind (arith, slice_index, get_or_push, length-append, value_at-filled));
+        present = there;
+        table = λ v. IsTable-write n key (Some v) after t h key_is
+            (AreVacant-pop (places entries keys) before after n v t.are_vacant e);
+        inserted = λ v. rw (← is) (all-with_value entries keys count n key (Some v) t.are_keys h key_is);
+      }
 
   -- a table after a removal
   pub IsTable-remove : (entries : Slab (Option T)) (keys before : List ℕ) (key_room vacant_room count n key : ℕ)
@@ -233,15 +165,8 @@ module _ {T : Type 0} where
   IsTable-remove entries keys before key_room vacant_room count n key t some read =
       let was = used entries keys count n some in
       let h = within_keys entries keys n (IsSome-in_range (places entries keys) n was) in
-      let is = read_key keys n key h read in
-      let there = key_present entries keys n key t.are_keys h is in
-      record {
-        are_keys = AreKeys-with_value entries keys key None t.are_keys there;
-        are_vacant =
-            rw (places-with_value entries keys n key None t.are_keys h is)
-            (AreVacant-push (places entries keys) before n t.are_vacant was);
-        rooms = HasRooms-with_value entries keys key None key_room vacant_room count there t.rooms;
-      }
+      IsTable-write n key None _ t h (read_key keys n key h read)
+      (AreVacant-push (places entries keys) before n t.are_vacant was)
 
   -- a value is written at a number that has one, or has none
   pub places-write : (entries : Slab (Option T)) (keys : List ℕ) (count n key : ℕ) (v : Option T)
@@ -258,15 +183,8 @@ module _ {T : Type 0} where
   IsTable-set entries keys vacant key_room vacant_room count n key v t some read =
       let was = used entries keys count n some in
       let h = within_keys entries keys n (IsSome-in_range (places entries keys) n was) in
-      let is = read_key keys n key h read in
-      let there = key_present entries keys n key t.are_keys h is in
-      record {
-        are_keys = AreKeys-with_value entries keys key (Some v) t.are_keys there;
-        are_vacant =
-            rw (places-with_value entries keys n key (Some v) t.are_keys h is)
-            (AreVacant-set (places entries keys) vacant n v t.are_vacant was);
-        rooms = HasRooms-with_value entries keys key (Some v) key_room vacant_room count there t.rooms;
-      }
+      IsTable-write n key (Some v) _ t h (read_key keys n key h read)
+      (AreVacant-set (places entries keys) vacant n v t.are_vacant was)
 
   -- a key that had no entry is no key of the list
   fresh_differs : (entries : Slab (Option T)) (keys : List ℕ) (key : ℕ) → AreKeys entries keys
@@ -292,22 +210,11 @@ module _ {T : Type 0} where
       → get old key ≡ None → Updates old new key (Some v)
       → places new (keys ++ key ∷ []) ≡ places old keys ++ v ∷ []
   places-push old new keys key v k fresh u =
-      map-append (value_under_key new) keys (key ∷ [])
-      ∙ (ap (λ p. p ++ value_under_key new key ∷ []) same ∙ ap (λ o. places old keys ++ o ∷ []) last)
-    where
-      last : value_under_key new key ≡ v
-      last = ap (λ o. unwrap_or o None) u.changed
-
-      same : places new keys ≡ places old keys
-      same =
-          ext_get_or None (places new keys) (places old keys)
-          (length-map keys (value_under_key new) ∙ sym (length-map keys (value_under_key old)))
-          (λ i h.
-          let within = within_keys new keys i h in
-          value_at-places new keys i within
-          ∙ (ap (λ o. unwrap_or o None)
-          (u.others (slice_index keys i) (fresh_differs old keys key k fresh i within))
-          ∙ sym (value_at-places old keys i within)))
+      let same : places new keys ≡ places old keys =
+      ext_get_or None (places new keys) (places old keys) (grind (arith, length-map))
+      (λ i h. let within : i < length keys = grind (arith, length-map) in
+      let differs = fresh_differs old keys key k fresh i within in grind (arith, value_at-places, unwrap_or)) in
+      rw (map-append (value_under_key new) keys (key ∷ []), same) (grind (arith, unwrap_or))
 
   -- a table after one more place, with a value
   pub IsTable-push : (old new : Slab (Option T)) (keys more before after : List ℕ)
@@ -332,3 +239,13 @@ module _ {T : Type 0} where
       ∙ (sym (set_at_end first (replicate (count - length more) None) (length keys) None (Some v) size)
       ∙ (ap (λ m. slice_set (first ++ replicate m None) (length keys) (Some v)) (sym left)
       ∙ ap (λ l. slice_set l (length keys) (Some v)) was)))
+
+-- ---- what proofs of functions use
+
+pub ruleset for_insert = (IsTable-push, all-push, push-left)
+
+pub ruleset for_remove = (IsTable-remove, places-write)
+
+pub ruleset for_set = (IsTable-set, places-write)
+
+pub ruleset for_push_place = (AreKeys-push, places-push)

@@ -30,12 +30,14 @@ pub record AreVacant {T : Type 0} (slots : List (Option T)) (vacant : List ℕ) 
   pub count : length vacant + value_count slots ≡ length slots
 
 -- there is room for as many entries and keys as there are numbers, and for all of them in the list of the empty ones
-pub record HasRooms {T : Type 0} (entries : Slab (Option T)) (keys : List ℕ) (key_room vacant_room count : ℕ) : Type 0 where
-  pub within : length keys ≤ count
-  pub entered : slab_len entries ≡ length keys
-  pub entries_fit : count ≤ entries.capacity
-  pub keys_fit : count ≤ key_room
-  pub vacant_fit : count ≤ vacant_room
+pub record HasRooms {T : Type 0} (entries : Slab (Option T)) (keys : List ℕ) (key_room vacant_room count : ℕ)
+    : Type 0
+  where
+    pub within : length keys ≤ count
+    pub entered : slab_len entries ≡ length keys
+    pub entries_fit : count ≤ entries.capacity
+    pub keys_fit : count ≤ key_room
+    pub vacant_fit : count ≤ vacant_room
 
 -- the keys and the empty numbers are in order, and there is room for those to come
 pub record IsTable {T : Type 0} (entries : Slab (Option T)) (keys vacant : List ℕ) (key_room vacant_room count : ℕ)

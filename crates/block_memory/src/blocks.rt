@@ -63,6 +63,7 @@ fn lengthen<A: Allocator, T: Copy>(list: &mut Vec<T, A>, len: usize, item: T)
 
 // Puts an item at each place of a list from its end on until it is so long.
 #[inline(never)]
+#[tactic(auto, using(crate::proofs::Lists::with_more))]
 fn fill_up<A: Allocator, T: Copy>(list: &mut Vec<T, A>, len: usize, item: T)
     requires room { len ≤ vec_capacity list.old }
     requires longer { length list.old.items ≤ len }
@@ -131,6 +132,7 @@ fn lent_span<A: Allocator>(spans: &Table<Span, A>, lent: &[BlockId], index: usiz
 }
 
 // Writes the words of a block at a place where no other is, and the words beside it, lent those of other blocks.
+#[tactic(auto, using(crate::proofs::BlocksLemmas::for_write_lent))]
 fn write_lent<A: Allocator, R: Rewriter>(
     words: &mut [i64],
     spans: &Table<Span, A>,
@@ -250,6 +252,7 @@ impl<A: Allocator> Blocks<A> {
 
     /// The place of the block of a number in the region, in which it has words, and how many these are.
     #[inline(always)]
+    #[tactic(auto, using(crate::proofs::BlocksLemmas::in_region))]
     pub(crate) fn range(&self, number: usize) -> (usize, usize)
         requires there { IsSome (value_at self.now.slots number) }
         requires some { 1 ≤ covered_at self.now.slots number }
@@ -284,6 +287,7 @@ impl<A: Allocator> Blocks<A> {
 
     // The word of a new block that a writer writes from the words of others, with the words beside it, and what it
     // answers.
+    #[tactic(auto, using(crate::proofs::BlocksLemmas::for_written_word))]
     fn written_word<W: Writer>(
         &self,
         lent: &[BlockId],
@@ -334,6 +338,7 @@ impl<A: Allocator> Blocks<A> {
 
     /// Puts a block of one word into the word of its number, which had no block, and answers the number.
     #[inline(always)]
+    #[tactic(auto, using(crate::proofs::BlocksLemmas::for_put_word))]
     pub(crate) fn put_word(&mut self, owner: usize, word: &[i64]) -> usize
         requires number { value_count self.old.slots < length self.old.slots }
         requires one { length word.now ≡ 1 }
@@ -379,6 +384,7 @@ impl<A: Allocator> Blocks<A> {
 
     /// Puts a block of the words at a place at which no block covers a word, and answers its number, which had none.
     #[inline(always)]
+    #[tactic(auto, using(crate::proofs::BlocksLemmas::for_put))]
     pub(crate) fn put(&mut self, owner: usize, place: usize, words: &[i64]) -> usize
         requires number { value_count self.old.slots < length self.old.slots }
         requires within { place + length words.now ≤ self.old.size }
@@ -406,6 +412,7 @@ impl<A: Allocator> Blocks<A> {
     /// Puts a block of `len` words at a place where no block covers a word. A writer writes it and the words beside it,
     /// and is lent the words of other blocks for that. Answers its number, which had none, and what the writer answers.
     /// If that is a fault, nothing is said of the words of the block and beside it.
+    #[tactic(auto, using(crate::proofs::BlocksLemmas::for_put))]
     pub(crate) fn put_with<W: Writer>(
         &mut self,
         owner: usize,
@@ -443,6 +450,7 @@ impl<A: Allocator> Blocks<A> {
 
     /// Writes other words over those of the block of a number, which has as many and shares none with another.
     #[inline(always)]
+    #[tactic(auto, using(crate::proofs::BlocksLemmas::for_rewrite))]
     pub(crate) fn rewrite(&mut self, number: usize, words: &[i64])
         requires there { IsSome (value_at self.old.slots number) }
         requires same_length { length words.now ≡ length (words_at self.old.slots number) }
@@ -456,6 +464,7 @@ impl<A: Allocator> Blocks<A> {
 
     /// Writes other words over those of the block of a number, which shares none with another. A rewriter writes them,
     /// and is lent the words of other blocks for that. If it finds a fault, nothing is said of the block's words.
+    #[tactic(auto, using(crate::proofs::BlocksLemmas::for_rewrite_with))]
     pub(crate) fn rewrite_with<R: Rewriter>(
         &mut self,
         number: usize,
@@ -491,6 +500,7 @@ impl<A: Allocator> Blocks<A> {
 
     /// Takes the block of a number away, and answers what it had.
     #[inline(always)]
+    #[tactic(auto, using(crate::proofs::BlocksLemmas::for_remove))]
     pub(crate) fn remove(&mut self, number: usize) -> Freed
         requires { IsSome (value_at self.old.slots number) }
         ensures words { result.words ≡ length (words_at self.old.slots number) }
@@ -505,6 +515,7 @@ impl<A: Allocator> Blocks<A> {
 
     /// Moves the block of a number, which has words in the region, to a place from which on no other block covers one
     /// of its words. Answers how many words moved.
+    #[tactic(auto, using(crate::proofs::BlocksLemmas::for_put))]
     pub(crate) fn slide(&mut self, number: usize, to: usize) -> usize
         requires there { IsSome (value_at self.old.slots number) }
         requires some { 1 ≤ covered_at self.old.slots number }

@@ -11,6 +11,7 @@ use std::alloc::Allocator;
 
 // Moves the blocks to the front of the region, in the order in which they lie, each word at most once. Those below the
 // lowest free word stay. Answers how many words moved.
+#[tactic(auto, using(crate::proofs::FrontLemmas::for_pack_blocks))]
 fn pack_blocks<A: Allocator>(blocks: &mut Blocks<A>, holes: &Holes<A>, covered: usize) -> usize
     requires { IsRegion blocks.old holes.now covered }
     ensures size { blocks.new.size ≡ blocks.old.size }

@@ -87,6 +87,7 @@ fn index_for(kept: &[Option<WordRange>; KEPT], len: usize, next: usize) -> usize
 
 // Gives the range that is kept at an index, if one is, back to the holes.
 #[inline(always)]
+#[tactic(auto, using(crate::proofs::PlacesLemmas::for_give_back))]
 fn give_back<A: Allocator>(holes: &mut Holes<A>, kept: &mut [Option<WordRange>], index: usize)
     requires places { ArePlaces holes.old (slots_of kept.old) }
     requires index { index < length kept.old }
@@ -103,6 +104,7 @@ fn give_back<A: Allocator>(holes: &mut Holes<A>, kept: &mut [Option<WordRange>],
 
 // Gives all ranges that are kept back to the holes.
 #[inline(never)]
+#[tactic(auto, using(crate::proofs::PlacesLemmas::for_give_all_back))]
 fn give_all_back<A: Allocator>(holes: &mut Holes<A>, kept: &mut [Option<WordRange>])
     requires { ArePlaces holes.old (slots_of kept.old) }
     ensures holes { holes.new ≡ with_kept holes.old kept.old }
@@ -122,6 +124,7 @@ fn nothing_kept() -> [Option<WordRange>; KEPT]
 
 impl<A: Allocator> Places<A> {
     /// A region of `size` words, all free.
+    #[tactic(auto, using(crate::proofs::PlacesLemmas::for_new))]
     pub(crate) fn new(alloc: A, size: usize) -> Result<Self, AllocError>
     where
         A: Clone,
@@ -139,6 +142,7 @@ impl<A: Allocator> Places<A> {
     // Takes words from a range of this length that is kept, or else from the lowest hole that has as many. None if
     // neither is there: then nothing changes.
     #[inline(always)]
+    #[tactic(auto, using(crate::proofs::PlacesLemmas::for_take))]
     fn take(&mut self, len: usize) -> Option<usize>
         requires { 1 ≤ len }
         ensures taken { IfSome result (λ place. IsTaken self.old self.new place len) }
@@ -153,6 +157,7 @@ impl<A: Allocator> Places<A> {
 
     // Takes words for which neither a range nor a hole is wide enough: blocks move.
     #[inline(never)]
+    #[tactic(auto, using(crate::proofs::PlacesLemmas::for_make_room))]
     fn make_room<P: Packing>(
         &mut self,
         blocks: &mut Blocks<A>,
@@ -178,6 +183,7 @@ impl<A: Allocator> Places<A> {
     /// this length that is kept, or of the lowest hole that has as many. If there is neither, blocks move first, and
     /// what moves is counted.
     #[inline(always)]
+    #[tactic(auto, using(crate::proofs::PlacesLemmas::room_of))]
     pub(crate) fn take_room<P: Packing>(
         &mut self,
         blocks: &mut Blocks<A>,
@@ -203,6 +209,7 @@ impl<A: Allocator> Places<A> {
 
     /// Gives words back, which are free then. They are kept for the next block of this length, unless it is long.
     #[inline(never)]
+    #[tactic(auto, using(crate::proofs::PlacesLemmas::for_give))]
     pub(crate) fn give(&mut self, place: usize, len: usize)
         requires some { 1 ≤ len }
         requires within { place + len ≤ length self.old.free }
@@ -221,6 +228,7 @@ impl<A: Allocator> Places<A> {
     }
 
     /// Moves the blocks to the front of the region, so that the free words are one hole after them.
+    #[tactic(auto, using(crate::proofs::PlacesLemmas::for_pack))]
     pub(crate) fn pack(&mut self, blocks: &mut Blocks<A>, covered: usize)
         requires { IsRegion blocks.old self.old covered }
         ensures size { blocks.new.size ≡ blocks.old.size }

@@ -41,6 +41,7 @@ impl<A: Allocator + Clone> PlainMemory<A> {
     /// [`MOST_BLOCKS`] blocks.
     ///
     /// An error means that the allocator refused the room for the numbers of the blocks.
+    #[tactic(auto, using(crate::proofs::PlainLemmas::for_new))]
     pub fn new(alloc: A, size: usize, most_blocks: usize) -> Result<Self, AllocError>
         requires { most_blocks ≤ MOST_BLOCKS }
         ensures empty { IfOk result (λ m. m.content ≡ no_blocks most_blocks) }
@@ -74,6 +75,7 @@ impl<A: Allocator + Clone> VectorMemory for PlainMemory<A> {
 
     ghost may_refuse = { true };
 
+    #[tactic(auto, using(crate::proofs::PlainLemmas::for_place))]
     fn place(&mut self, owner: usize, words: &[i64]) -> Result<BlockId, NoRoom> {
         if words.len() > self.size - self.used {
             return Err(NoRoom::Full);
@@ -84,6 +86,7 @@ impl<A: Allocator + Clone> VectorMemory for PlainMemory<A> {
         Ok(BlockId::new(number))
     }
 
+    #[tactic(auto, using(crate::proofs::PlainLemmas::for_free))]
     fn free(&mut self, id: BlockId) {
         let block = self.table.remove(id.number());
         self.used -= block.words.len();

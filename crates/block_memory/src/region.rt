@@ -72,6 +72,7 @@ impl<P: Packing, A: Allocator> PackedRegion<P, A> {
     /// most [`LONGEST_REGION`] words, and numbers for at most [`MOST_BLOCKS`] blocks.
     ///
     /// An error means that the allocator refused the room for the words, the numbers of the blocks or the holes.
+    #[tactic(auto, using(crate::proofs::RegionLemmas::for_new))]
     pub fn new(alloc: A, size: usize, most_blocks: usize) -> Result<Self, AllocError>
     where
         A: Clone,
@@ -96,6 +97,7 @@ impl<P: Packing, A: Allocator> PackedRegion<P, A> {
 
     // Places a block of one word, which fits.
     #[inline(always)]
+    #[tactic(auto, using(crate::proofs::RegionLemmas::for_put_word))]
     fn put_word(&mut self, owner: usize, word: &[i64]) -> BlockId
         requires one { length word.now ≡ 1 }
         requires numbers { block_count self.old.content < length self.old.content }
@@ -115,6 +117,7 @@ impl<P: Packing, A: Allocator> PackedRegion<P, A> {
 
     // Places a block in the region, which fits.
     #[inline(never)]
+    #[tactic(auto, using(crate::proofs::RegionLemmas::for_put))]
     fn put(&mut self, owner: usize, words: &[i64]) -> BlockId
         requires numbers { block_count self.old.content < length self.old.content }
         requires room { used_words self.old.content + length words.now ≤ self.old.room }
@@ -136,6 +139,7 @@ impl<P: Packing, A: Allocator> PackedRegion<P, A> {
     }
 
     // As `put_with`, in the word of the number.
+    #[tactic(auto, using(crate::proofs::RegionLemmas::for_put_word_with))]
     fn put_word_with<W: Writer>(
         &mut self,
         owner: usize,
@@ -168,6 +172,7 @@ impl<P: Packing, A: Allocator> PackedRegion<P, A> {
     // Places a block that a writer writes, as `place_with`. If the writer finds a fault, the block stays, with any
     // words.
     #[inline(always)]
+    #[tactic(auto, using(crate::proofs::RegionLemmas::for_put_with))]
     fn put_with<W: Writer>(
         &mut self,
         owner: usize,
@@ -237,6 +242,7 @@ impl<P: Packing, A: Allocator> VectorMemory for PackedRegion<P, A> {
     }
 
     #[inline(always)]
+    #[tactic(auto, using(crate::proofs::RegionLemmas::for_free))]
     fn free(&mut self, id: BlockId) {
         let freed = self.blocks.remove(id.number());
         self.used -= freed.words;
@@ -263,6 +269,7 @@ impl<P: Packing, A: Allocator> VectorMemory for PackedRegion<P, A> {
     }
 
     /// Moves the blocks to the front of the region. The free words are one hole then, or none.
+    #[tactic(auto, using(crate::proofs::RegionLemmas::for_pack))]
     fn pack(&mut self)
         ensures kept { self.new.content ≡ self.old.content }
         ensures same_room { self.new.room ≡ self.old.room }
@@ -282,6 +289,7 @@ impl<P: Packing, A: Allocator> VectorMemory for PackedRegion<P, A> {
         self.blocks.size()
     }
 
+    #[tactic(auto, using(crate::proofs::RegionLemmas::for_blocks))]
     fn blocks(&self) -> usize {
         self.blocks.count()
     }
@@ -293,12 +301,14 @@ impl<P: Packing, A: Allocator> VectorMemory for PackedRegion<P, A> {
 
 impl<P: Packing, A: Allocator> RewritableMemory for PackedRegion<P, A> {
     #[inline(always)]
+    #[tactic(auto, using(crate::proofs::RegionLemmas::can_rewrite))]
     fn rewrite(&mut self, id: BlockId, words: &[i64]) {
         self.blocks.rewrite(id.number(), words);
     }
 }
 
 impl<P: Packing, A: Allocator> LendingMemory for PackedRegion<P, A> {
+    #[tactic(auto, using(crate::proofs::ContentLemmas::comes_and_goes))]
     fn place_with<W: Writer>(
         &mut self,
         owner: usize,
@@ -317,6 +327,7 @@ impl<P: Packing, A: Allocator> LendingMemory for PackedRegion<P, A> {
         }
     }
 
+    #[tactic(auto, using(crate::proofs::RegionLemmas::for_rewrite_with))]
     fn rewrite_with<R: Rewriter>(
         &mut self,
         id: BlockId,

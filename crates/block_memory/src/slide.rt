@@ -13,6 +13,7 @@ use holes::laws::no_more_holes_than_words;
 use std::alloc::Allocator;
 
 // Moves a block down to the front of the lowest hole, if a hole reaches up to it, and answers how many words moved.
+#[tactic(auto, using(crate::proofs::FrontLemmas::for_slide_down))]
 fn slide_down<A: Allocator>(
     blocks: &mut Blocks<A>,
     holes: &mut Holes<A>,
@@ -50,6 +51,7 @@ pub struct SlidingPacking;
 
 impl Packing for SlidingPacking {
     #[inline(never)]
+    #[tactic(auto, using(crate::proofs::FrontLemmas::for_slide_make_room))]
     fn make_room<A: Allocator>(
         blocks: &mut Blocks<A>,
         holes: &mut Holes<A>,

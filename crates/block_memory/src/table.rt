@@ -37,6 +37,7 @@ impl<T, A: Allocator> Model for Table<T, A> {
 /// Adds a place with a value, and answers its number.
 #[cold]
 #[inline(never)]
+#[tactic(auto, using(crate::proofs::TableLemmas::for_push_place))]
 fn push_place<T: Drop, A: Allocator>(
     entries: &mut Slab<Option<T>, A>,
     keys: &mut Vec<usize, A>,
@@ -113,6 +114,7 @@ impl<T, A: Allocator> Table<T, A> {
 
     /// Replaces the value of a number.
     #[inline(always)]
+    #[tactic(auto, using(crate::proofs::TableLemmas::for_set))]
     pub(crate) fn set(&mut self, number: usize, value: T)
     where
         T: Drop,
@@ -124,6 +126,7 @@ impl<T, A: Allocator> Table<T, A> {
 
     /// Puts the value that a number is to have at an empty one, of which there is one, and answers the number.
     #[inline(always)]
+    #[tactic(auto, using(crate::proofs::TableLemmas::for_insert))]
     pub(crate) fn insert_with<F: FnOnce(usize) -> T>(&mut self, value: F) -> usize
     where
         T: Drop,
@@ -143,6 +146,7 @@ impl<T, A: Allocator> Table<T, A> {
 
     /// Puts a value at an empty number, of which there is one, and answers the number.
     #[inline(always)]
+    #[tactic(auto, using(crate::proofs::TableLemmas::for_insert))]
     pub(crate) fn insert(&mut self, value: T) -> usize
     where
         T: Drop,
@@ -160,6 +164,7 @@ impl<T, A: Allocator> Table<T, A> {
 
     /// Takes the value of a number, which has one. The number is empty then.
     #[inline(always)]
+    #[tactic(auto, using(crate::proofs::TableLemmas::for_remove))]
     pub(crate) fn remove(&mut self, number: usize) -> T
         requires { IsSome (value_at self.old number) }
         ensures value { value_at self.old number ≡ Some result }

@@ -99,6 +99,7 @@ impl<W: Writer> Rewriter for &W {
 
 // The words of a span that lies outside of a block, or has none. `before` and `behind` are the words of the region
 // before and after the block.
+#[tactic(auto, using(crate::proofs::WriterLemmas::for_words_outside))]
 fn words_outside<'a>(before: &'a [i64], behind: &'a [i64], len: usize, span: Span) -> &'a [i64]
     requires outside { IsOutside (length before.now + len + length behind.now) (length before.now) len span }
     requires size { length before.now + len + length behind.now < 2 ^ 64 }
@@ -136,6 +137,7 @@ fn words_at<'a>(
 }
 
 // Writes a block, and the words beside it, from the words of spans outside of it.
+#[tactic(auto, using(crate::proofs::WriterLemmas::for_write_between))]
 fn write_between<R: Rewriter>(
     before: &[i64],
     block: &mut [i64],

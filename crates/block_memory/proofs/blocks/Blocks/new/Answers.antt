@@ -1,14 +1,14 @@
-use Rattle.std.proofs.Common.{refl, ap, arith, length, None}
+use Rattle.std.proofs.Common.{ap, arith, length, None}
 use Rattle.std.proofs.lemmas.List.{length-replicate}
 use Rattle.block_memory.specs.declared.span.Span.{Span}
 use Rattle.std.specs.Prelude.{Option}
-use Rattle.block_memory.proofs.BlocksLemmas.{are_none, slots_from-empty, same_layout}
+use Rattle.block_memory.proofs.BlocksLemmas.{are_none, slots_from-empty, layout_of}
 use Rattle.block_memory.proofs.blocks.Blocks.new.Goals as goal
 
 pub returns : goal.returns
 returns g c =
-    rw c.in_ok-spans.ensures (same_layout c.args.size c.args.size _ _ refl
-    (slots_from-empty _ c.in_ok-words.words.items c.args.most))
+    rw c.in_ok-spans.ensures
+    (ap (layout_of c.args.size) (slots_from-empty _ c.in_ok-words.words.items c.args.most))
 
 pub invariant_of-result : goal.invariant_of-result
 invariant_of-result g c =

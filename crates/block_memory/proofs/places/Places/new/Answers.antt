@@ -1,7 +1,7 @@
-use Rattle.std.proofs.Common.{length, ap, ◌∙◌, true, arith}
+use Rattle.std.proofs.Common.{length, ap, true, arith}
 use Rattle.std.proofs.lemmas.List.{length-replicate}
 use Rattle.holes.specs.FreeWords.{Region}
-use Rattle.block_memory.proofs.PlacesLemmas.{holes-whole, places-none}
+use Rattle.block_memory.proofs.PlacesLemmas.{places-none}
 use Rattle.block_memory.proofs.places.Places.new.Goals as goal
 
 pub invariant_of-result : goal.invariant_of-result
@@ -10,7 +10,3 @@ invariant_of-result g c =
     let most = ap (λ (r : Region). r.most) c.in_ok-holes.ensures in
     let long = length-replicate c.args.size true in
     places-none c.in_ok-holes.holes _ c.nothing_kept.ensures (omega (arith, same, most, long))
-
-pub returns : goal.returns
-returns g c =
-    holes-whole c.in_ok-holes.holes c.nothing_kept.result c.nothing_kept.ensures ∙ c.in_ok-holes.ensures

@@ -1,8 +1,5 @@
-use Rattle.block_memory.proofs.PlainLemmas.{IsPlain-empty, content_of-empty}
+use Rattle.block_memory.proofs.PlainLemmas.{IsPlain-empty}
 use Rattle.block_memory.proofs.plain.PlainMemory.new.Goals as goal
 
 pub invariant_of-result : goal.invariant_of-result
 invariant_of-result g c = rw c.in_ok-table.ensures (IsPlain-empty _ c.args.size c.args.most_blocks)
-
-pub returns-clause-empty : goal.returns-clause-empty
-returns-clause-empty g c = rw c.in_ok-table.ensures (content_of-empty _ c.args.most_blocks)

@@ -1,4 +1,4 @@
-use Rattle.block_memory.proofs.PlainLemmas.{IsPlain-remove, content_of-remove}
+use Rattle.block_memory.proofs.PlainLemmas.{IsPlain-remove}
 use Rattle.block_memory.proofs.plain.PlainMemoryVectorMemory.free.Goals as goal
 
 pub invariant_of-self : goal.invariant_of-self
@@ -7,8 +7,3 @@ invariant_of-self g c =
     rw (c.remove-block.ensures.removed, c.len.ensures)
     (IsPlain-remove here.size here.used _ c.number.result _ c.remove-block.result c.self.invariant
     c.remove-block.ensures.value c.remove-block.result.words.ok.0)
-
-pub returns-clause-freed : goal.returns-clause-freed
-returns-clause-freed g c =
-    rw (c.remove-block.ensures.removed, c.number.ensures, ← c.self.view_is)
-    (content_of-remove c.self.inside.table c.args.id)

@@ -1,5 +1,5 @@
 use Rattle.std.proofs.Common.{◌+◌, ◌≤◌, length, arith}
-use Rattle.block_memory.proofs.PlainLemmas.{IsPlain-insert, content_of-insert}
+use Rattle.block_memory.proofs.PlainLemmas.{IsPlain-insert}
 use Rattle.block_memory.proofs.plain.PlainMemoryVectorMemory.place.Goals as goal
 
 pub invariant_of-self : goal.invariant_of-self
@@ -10,8 +10,3 @@ invariant_of-self g c =
     rw (c.insert-number.ensures.inserted, ← c.in_ok-copy.ensures.ok)
     (IsPlain-insert here.size here.used here.table c.insert-number.result _ c.self.invariant
     c.insert-number.ensures.in_range c.insert-number.ensures.vacant (rw c.in_ok-copy.ensures.ok fits))
-
-pub returns-clause-placed : goal.returns-clause-placed
-returns-clause-placed g c =
-    rw (c.insert-number.ensures.inserted, ← c.in_ok-copy.ensures.ok, c.new.ensures, ← c.self.view_is)
-    (content_of-insert c.self.inside.table c.insert-number.result _)

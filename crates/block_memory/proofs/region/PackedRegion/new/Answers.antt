@@ -1,9 +1,6 @@
-use Rattle.block_memory.proofs.RegionLemmas.{IsPackedRegion-empty, content_of-empty}
+use Rattle.block_memory.proofs.RegionLemmas.{IsPackedRegion-empty}
 use Rattle.block_memory.proofs.region.PackedRegion.new.Goals as goal
 
 pub invariant_of-result : goal.invariant_of-result
 invariant_of-result g c =
     rw (c.in_ok-blocks.ensures, c.in_ok-places.ensures) (IsPackedRegion-empty c.args.size c.args.most_blocks)
-
-pub returns-clause-empty : goal.returns-clause-empty
-returns-clause-empty g c = rw c.in_ok-blocks.ensures (content_of-empty c.args.most_blocks)

@@ -1,6 +1,5 @@
 -- A block that a writer rewrites keeps its place among the others.
-use Rattle.std.proofs.Common.{◌≡◌, ℕ, ℤ, List, [], length, map, sym, ◌∙◌, ap, subst, refl}
-use Rattle.std.specs.Prelude.{MatchResult}
+use Rattle.std.proofs.Common.{◌≡◌, ℕ, ℤ, List, length, map, sym, ◌∙◌, ap, refl}
 use Rattle.block_memory.specs.Content.{words_at}
 use Rattle.block_memory.specs.Layout.{words_at as slot_words_at}
 use Rattle.block_memory.specs.Region.{RegionState}
@@ -36,14 +35,6 @@ pub rewrite_with-requires-clause-clear : goal.rewrite_with-requires-clause-clear
 rewrite_with-requires-clause-clear g c =
     (can g (goal.at.rewrite_with-requires-clause-clear g c).After-number _ refl).clear
 
-pub rewrite_with-requires-clause-can : goal.rewrite_with-requires-clause-can
-rewrite_with-requires-clause-can g c =
-    let at = (goal.at.rewrite_with-requires-clause-can g c).After-number in
-    subst (λ ws. g.R.Rewriter.can_rewrite c.args.rewriter.now ws 0
-    (slot_words_at c.self.inside.blocks.slots c.number.result)) (sym (lists g at))
-    (subst (λ old. g.R.Rewriter.can_rewrite c.args.rewriter.now
-    (map (words_at c.args.self.now.content) c.args.lent.now) 0 old) (sym (own g at)) c.requires.can)
-
 pub invariant_of-self : goal.invariant_of-self
 invariant_of-self g c =
     let e = c.rewrite_with.ensures in
@@ -62,15 +53,6 @@ returns-clause-rewritten g c =
     record {
       words = e.words;
       same_length = e.same_length ∙ ap length (own g at);
-      so =
-          subst (λ ws. MatchResult c.rewrite_with.result
-          (λ _. g.R.Rewriter.rewrites c.args.rewriter.now ws [] (words_at c.args.self.now.content c.args.id) e.words)
-          (λ fault. g.R.Rewriter.faults_over c.args.rewriter.now ws (words_at c.args.self.now.content c.args.id) fault))
-          (lists g at)
-          (subst (λ old. MatchResult c.rewrite_with.result
-          (λ _. g.R.Rewriter.rewrites c.args.rewriter.now
-          (map (slot_words_at c.self.inside.blocks.slots) c.args.lent.now) [] old e.words)
-          (λ fault. g.R.Rewriter.faults_over c.args.rewriter.now
-          (map (slot_words_at c.self.inside.blocks.slots) c.args.lent.now) old fault)) (own g at) e.so);
+      so = rw (lists g at, own g at) at e.so;
       rewritten = rw (e.rewritten, c.number.ensures, ← c.self.view_is) (rw c.number.ensures at rewritten.content);
     }

@@ -11,13 +11,6 @@ can g c =
     c.self.invariant.region (rw c.number.ensures (rw (← c.self.view_is) at c.requires.live))
     (rw c.number.ensures (rw (← c.self.view_is) at c.requires.same_length))
 
-pub rewrite-requires-clause-there : goal.rewrite-requires-clause-there
-rewrite-requires-clause-there g c = (can g (goal.at.rewrite-requires-clause-there g c).After-number).there
-
-pub rewrite-requires-clause-same_length : goal.rewrite-requires-clause-same_length
-rewrite-requires-clause-same_length g c =
-    (can g (goal.at.rewrite-requires-clause-same_length g c).After-number).same_length
-
 pub rewrite-requires-clause-clear : goal.rewrite-requires-clause-clear
 rewrite-requires-clause-clear g c = (can g (goal.at.rewrite-requires-clause-clear g c).After-number).clear
 

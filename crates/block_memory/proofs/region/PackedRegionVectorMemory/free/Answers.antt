@@ -1,5 +1,5 @@
 -- After a block was freed, its words are free, and all others are as they were.
-use Rattle.block_memory.proofs.RegionLemmas.{IsFreed, is_freed, content_of-remove}
+use Rattle.block_memory.proofs.RegionLemmas.{IsFreed, is_freed}
 use Rattle.block_memory.proofs.region.PackedRegionVectorMemory.free.Given.{Over}
 use Rattle.block_memory.proofs.region.PackedRegionVectorMemory.free.Goals as goal
 use Rattle.block_memory.proofs.region.PackedRegionVectorMemory.free.Goals.{After-remove-freed}
@@ -12,16 +12,6 @@ freed g c =
     let gone = c.remove-freed.ensures in
     is_freed here.blocks here.places here.covered here.used c.number.result _ _ _
     c.self.invariant (rw c.number.ensures (rw (← c.self.view_is) at c.requires)) gone.place gone.covered gone.words
-
-pub overflow_sub-self : goal.overflow_sub-self
-overflow_sub-self g c = (freed g (goal.at.overflow_sub-self g c).After-remove-freed).less
-
-pub overflow_sub-self-2 : goal.overflow_sub-self-2
-overflow_sub-self-2 g c = (freed g (goal.at.overflow_sub-self-2 g c).After-remove-freed).leaving.less
-
-pub give-requires-clause-within : goal.give-requires-clause-within
-give-requires-clause-within g c =
-    (freed g (goal.at.give-requires-clause-within g c).After-remove-freed).leaving.within
 
 pub give-requires-clause-none_free : goal.give-requires-clause-none_free
 give-requires-clause-none_free g c =
@@ -36,13 +26,3 @@ pub invariant_of-self-2 : goal.invariant_of-self-2
 invariant_of-self-2 g c =
     rw (c.remove-freed.ensures.removed, c.give.ensures)
     (freed g (goal.at.invariant_of-self-2 g c).After-remove-freed).memory
-
-pub returns-then-freed-eq0-clause-freed : goal.returns-then-freed-eq0-clause-freed
-returns-then-freed-eq0-clause-freed g c =
-    rw (c.remove-freed.ensures.removed, c.number.ensures, ← c.self.view_is)
-    (content_of-remove c.self.inside.blocks.slots c.args.id)
-
-pub returns-clause-freed : goal.returns-clause-freed
-returns-clause-freed g c =
-    rw (c.remove-freed.ensures.removed, c.number.ensures, ← c.self.view_is)
-    (content_of-remove c.self.inside.blocks.slots c.args.id)
