@@ -1,5 +1,4 @@
-mod Slots
-mod States
-mod Puts
-mod Changes
-mod Freed
+pub mod Slots
+pub mod Puts
+pub mod Changes
+pub mod Freed

@@ -18,6 +18,7 @@ pub(crate) fn count_first<A: Allocator>(counts: &mut Vec<u64, A>, number: usize)
 }
 
 // Makes the list so long by counts of 0. A number that is used for the first time comes here, and most come in turn.
+#[tactic(auto, using(std::proofs::lemmas::List::take_all))]
 #[cold]
 #[inline(never)]
 fn lengthen<A: Allocator>(counts: &mut Vec<u64, A>, len: usize)

@@ -53,6 +53,7 @@ impl<M: VectorMemory, A: Allocator> SharedMemory<M, A> {
     ///
     /// The counts take memory of `alloc` once, for as many blocks as the memory has numbers, and none of it is written
     /// here. An error means that the allocator refused it; the memory is dropped then.
+    #[tactic(auto, using(crate::proofs::Slots::slots_of_none))]
     pub fn new(alloc: A, memory: M) -> Result<Self, AllocError>
     where
         M: Drop,
@@ -71,6 +72,7 @@ impl<M: VectorMemory, A: Allocator> SharedMemory<M, A> {
     ///
     /// `Full` exactly if the words in use and these together are more than fit; `Memory` only if they would fit,
     /// and only over a memory that may refuse. Nothing changes at either.
+    #[tactic(auto, using(crate::proofs::Slots::of_first))]
     #[inline(always)]
     pub fn make(&mut self, owner: usize, words: &[i64]) -> Result<BlockId, NoRoom>
         requires { block_count self.old < length self.old.slots }
@@ -88,6 +90,7 @@ impl<M: VectorMemory, A: Allocator> SharedMemory<M, A> {
     }
 
     /// One reference more to a block, which has fewer than the greatest `u64`. Nothing else changes.
+    #[tactic(auto, using(crate::proofs::Slots::of_count))]
     #[inline(always)]
     pub fn share(&mut self, id: BlockId)
         requires live { IsLive self.old id }
@@ -99,6 +102,7 @@ impl<M: VectorMemory, A: Allocator> SharedMemory<M, A> {
 
     /// One reference less to a block. True exactly if it was the last one, and then the block is freed. No other block
     /// changes.
+    #[tactic(auto, using(crate::proofs::Slots::of_count))]
     #[inline(always)]
     pub fn release(&mut self, id: BlockId) -> bool
         requires { IsLive self.old id }
@@ -116,6 +120,7 @@ impl<M: VectorMemory, A: Allocator> SharedMemory<M, A> {
 
     /// One reference less to each of these blocks, once for each time that it is listed: at most as often as references
     /// name it. The last one of a block frees it. Answers how many words this frees.
+    #[tactic(auto, using(crate::proofs::Freed::of_releases))]
     #[inline(always)]
     pub fn release_all(&mut self, ids: &[BlockId]) -> u64
         requires { AreNamed self.old ids.now }
@@ -131,6 +136,7 @@ impl<M: VectorMemory, A: Allocator> SharedMemory<M, A> {
     }
 
     /// The number of words that would be in use after `release_all` of these references. Nothing changes.
+    #[tactic(auto, using(crate::proofs::Freed::of_releases))]
     pub fn used_without(&self, ids: &[BlockId]) -> usize
         requires { AreNamed self.now ids.now }
         ensures value { result ≡ used_words (state_after_releases self.now ids.now) }
@@ -154,6 +160,7 @@ impl<M: VectorMemory, A: Allocator> SharedMemory<M, A> {
     }
 
     /// The number of references to a block, 0 for a number without a block.
+    #[tactic(auto, using(crate::proofs::Slots::of_block))]
     #[inline(always)]
     pub fn count(&self, id: BlockId) -> u64
         ensures value { result ≡ (slot_at self.now id).count }
@@ -163,6 +170,7 @@ impl<M: VectorMemory, A: Allocator> SharedMemory<M, A> {
     }
 
     /// The number of words of a block.
+    #[tactic(auto, using(crate::proofs::Slots::of_block))]
     #[inline(always)]
     pub fn len(&self, id: BlockId) -> usize
         requires { IsLive self.now id }
@@ -172,6 +180,7 @@ impl<M: VectorMemory, A: Allocator> SharedMemory<M, A> {
     }
 
     /// Whose a block is.
+    #[tactic(auto, using(crate::proofs::Slots::of_block))]
     #[inline(always)]
     pub fn owner(&self, id: BlockId) -> usize
         requires { IsLive self.now id }
@@ -181,6 +190,7 @@ impl<M: VectorMemory, A: Allocator> SharedMemory<M, A> {
     }
 
     /// The words of a block.
+    #[tactic(auto, using(crate::proofs::Slots::of_block))]
     #[inline(always)]
     pub fn words(&self, id: BlockId) -> &[i64]
         requires { IsLive self.now id }
@@ -190,6 +200,7 @@ impl<M: VectorMemory, A: Allocator> SharedMemory<M, A> {
     }
 
     /// A word of a block, counted from 0.
+    #[tactic(auto, using(crate::proofs::Slots::of_block))]
     #[inline(always)]
     pub fn word(&self, id: BlockId, i: usize) -> i64
         requires live { IsLive self.now id }
@@ -200,6 +211,7 @@ impl<M: VectorMemory, A: Allocator> SharedMemory<M, A> {
     }
 
     /// Copies the words of a block to `buf`, which has its length.
+    #[tactic(auto, using(crate::proofs::Slots::of_block))]
     pub fn read_into(&self, id: BlockId, buf: &mut [i64])
         requires live { IsLive self.now id }
         requires same_length { length buf.old ≡ length (slot_at self.now id).words }
@@ -210,6 +222,7 @@ impl<M: VectorMemory, A: Allocator> SharedMemory<M, A> {
 
     /// The number of words of all blocks, at most `size()`. A block counts once, however many references name it. A
     /// number that no reference names has no block.
+    #[tactic(auto, using(crate::proofs::Slots::of_all))]
     #[inline(always)]
     pub fn used(&self) -> usize
         ensures value { result ≡ used_words self.now }
@@ -228,6 +241,7 @@ impl<M: VectorMemory, A: Allocator> SharedMemory<M, A> {
     }
 
     /// The number of blocks.
+    #[tactic(auto, using(crate::proofs::Slots::of_all))]
     pub fn blocks(&self) -> usize
         ensures value { result ≡ block_count self.now }
         ensures within { result ≤ length self.now.slots }
@@ -236,6 +250,7 @@ impl<M: VectorMemory, A: Allocator> SharedMemory<M, A> {
     }
 
     /// The number of block numbers, each of which is below it.
+    #[tactic(auto, using(crate::proofs::Slots::of_all))]
     pub fn ids(&self) -> usize
         ensures { result ≡ length self.now.slots }
     {

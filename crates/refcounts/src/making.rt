@@ -16,6 +16,7 @@ impl<M: LendingMemory, A: Allocator> SharedMemory<M, A> {
     /// # Errors
     ///
     /// The fault that the writer finds. The memory doesn't change then, and nothing is said of the words of `beside`.
+    #[tactic(auto, using(crate::proofs::Slots::of_first))]
     #[inline(always)]
     pub fn make_with<W: Writer>(
         &mut self,

@@ -10,6 +10,7 @@ use std::alloc::Allocator;
 
 impl<M: RewritableMemory, A: Allocator> SharedMemory<M, A> {
     /// Writes other words over those of a block, which has as many, and which one reference names.
+    #[tactic(auto, using(crate::proofs::Slots::of_rewrite))]
     #[inline(always)]
     pub fn rewrite(&mut self, id: BlockId, words: &[i64])
         requires single { (slot_at self.old id).count ≡ 1 }
@@ -27,6 +28,7 @@ impl<M: LendingMemory, A: Allocator> SharedMemory<M, A> {
     /// # Errors
     ///
     /// The fault that the rewriter finds. Nothing is said of the block's words then.
+    #[tactic(auto, using(crate::proofs::Slots::of_rewrite))]
     #[inline(always)]
     pub fn rewrite_with<R: Rewriter>(
         &mut self,

@@ -1,9 +1,0 @@
-use Rattle.std.proofs.Common.{◌∙◌}
-use Rattle.refcounts.proofs.States.{named_block}
-use Rattle.refcounts.proofs.SharedMemory.owner.Goals as goal
-
-pub owner-requires : goal.owner-requires
-owner-requires g c = (named_block _ _ _ _ c.args.id c.self.invariant.counted c.self.view_is c.requires).live
-
-pub returns : goal.returns
-returns g c = c.owner.ensures ∙ (named_block _ _ _ _ c.args.id c.self.invariant.counted c.self.view_is c.requires).owner
