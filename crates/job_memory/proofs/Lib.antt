@@ -1,8 +1,6 @@
-mod Grants
-mod Slots
-mod Booked
-mod Views
-mod Turns
-mod Released
-mod Placed
-mod Rewritten
+pub mod Grants
+pub mod Slots
+pub mod Booked
+pub mod Turns
+pub mod Released
+pub mod Rewritten

@@ -54,6 +54,7 @@ impl<A: Allocator> JobMemory<A> {
     /// which has a grant. There are at most [`LONGEST_REGION`] words, [`MOST_BLOCKS`] numbers and [`MOST_BOOKED`] jobs.
     ///
     /// An error means that the allocator refused the memory. No other call takes memory.
+    #[tactic(auto, using(crate::proofs::Grants::no_grants))]
     pub fn new(alloc: A, region: usize, jobs: usize, most_blocks: usize) -> Result<Self, AllocError>
     where
         A: Clone,
@@ -73,6 +74,7 @@ impl<A: Allocator> JobMemory<A> {
     /// Grants words of the region to a job that has no grant and no block. A grant may be of 0 words.
     ///
     /// `NotNow` exactly if all granted words and these together are more than the region has; then nothing changes.
+    #[tactic(auto, using(crate::proofs::Grants::of_grants))]
     pub fn grant(&mut self, job: usize, words: usize) -> Result<(), NotNow>
         requires is_job { IsJob self.old job }
         requires no_grant { grant_of self.old job ≡ None }
@@ -84,6 +86,7 @@ impl<A: Allocator> JobMemory<A> {
     }
 
     /// Whether `grant` of this number of words to a job that has no grant would be `Ok` now.
+    #[tactic(auto, using(crate::proofs::Grants::of_grants))]
     pub fn fits(&self, words: usize) -> bool
         ensures { IsTrue result ↔ (granted_words self.now + words ≤ self.now.memory.room) }
     {
@@ -91,6 +94,7 @@ impl<A: Allocator> JobMemory<A> {
     }
 
     /// Ends the grant of a job, whose blocks have no words any more. They can be granted anew.
+    #[tactic(auto, using(crate::proofs::Grants::of_grants))]
     pub fn close(&mut self, job: usize)
         requires has_grant { HasGrant self.old job }
         requires holds_none { held_words job self.old ≡ 0 }
@@ -104,6 +108,7 @@ impl<A: Allocator> JobMemory<A> {
     ///
     /// `Spent` exactly if the words of the job's blocks and of this one are more than its grant; then nothing changes.
     /// The region always has room for the others.
+    #[tactic(auto, using(crate::proofs::Grants::of_grants, crate::proofs::Slots::own_count))]
     #[inline(always)]
     pub fn place(&mut self, job: usize, words: &[i64]) -> Result<BlockId, Spent>
         requires has_grant { HasGrant self.old job }
@@ -128,6 +133,7 @@ impl<A: Allocator> JobMemory<A> {
     ///
     /// Each of them is there, and has so few references that they and the length of the list are at most what a `u64`
     /// counts.
+    #[tactic(auto, using(crate::proofs::Turns::of_share))]
     #[inline(always)]
     pub fn share_all(&mut self, ids: &[BlockId])
         requires live { AreLive self.old.memory ids.now }
@@ -151,6 +157,7 @@ impl<A: Allocator> JobMemory<A> {
 
     /// One reference less to each of these blocks of a job, once for each time that it is listed; the last one of a
     /// block frees it. Nothing else changes.
+    #[tactic(auto, using(crate::proofs::Grants::of_grants, crate::proofs::Slots::own_count))]
     #[inline(always)]
     pub fn release_all(&mut self, job: usize, ids: &[BlockId])
         requires has_grant { HasGrant self.old job }
@@ -167,6 +174,7 @@ impl<A: Allocator> JobMemory<A> {
     ///
     /// There has to be a number without a block before the releases, and the job's grant has to have the words after
     /// them.
+    #[tactic(auto, using(crate::proofs::Grants::of_grants, crate::proofs::Slots::own_count))]
     pub fn exchange(&mut self, job: usize, taken: &[BlockId], words: &[i64]) -> BlockId
         requires has_grant { HasGrant self.old job }
         requires own { AreOwn job self.old taken.now }
@@ -214,6 +222,7 @@ impl<A: Allocator> JobMemory<A> {
 
     /// What a job would hold after `release_all` of these references: the words of its blocks that others name too, or
     /// that aren't listed.
+    #[tactic(auto, using(crate::proofs::Grants::of_grants, crate::proofs::Slots::own_count))]
     pub fn held_without(&self, job: usize, ids: &[BlockId]) -> usize
         requires has_grant { HasGrant self.now job }
         requires own { AreOwn job self.now ids.now }

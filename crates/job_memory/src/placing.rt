@@ -20,6 +20,7 @@ impl<A: Allocator> JobMemory<A> {
     /// # Errors
     ///
     /// The fault that the writer finds. The memory doesn't change then, and nothing is said of the words of `beside`.
+    #[tactic(auto, using(crate::proofs::Grants::of_grants))]
     #[inline(always)]
     pub fn place_with<W: Writer>(
         &mut self,

@@ -24,6 +24,7 @@ impl<A: Allocator> JobMemory<A> {
     /// One reference less to each of these blocks of a job and a new block of the words for the job, as `exchange`. The
     /// new block has the number of one of these blocks, and its words are written over that one's. No other reference
     /// names that block, and it has as many words.
+    #[tactic(auto, using(crate::proofs::Slots::live_within))]
     #[inline(always)]
     pub fn exchange_at(&mut self, job: usize, taken: &[BlockId], id: BlockId, words: &[i64])
         requires has_grant { HasGrant self.old job }
@@ -44,6 +45,7 @@ impl<A: Allocator> JobMemory<A> {
     }
 
     // Writes other words over those of a block, which has as many, and which one reference names.
+    #[tactic(auto, using(crate::proofs::Slots::live_within))]
     #[inline(always)]
     fn rewrite(&mut self, id: BlockId, words: &[i64])
         requires single { (slot_at self.old.memory id).count ≡ 1 }
@@ -60,6 +62,7 @@ impl<A: Allocator> JobMemory<A> {
     /// # Errors
     ///
     /// The fault that the rewriter finds. No reference goes then, and nothing is said of the block's words.
+    #[tactic(auto, using(crate::proofs::Slots::put))]
     #[inline(always)]
     pub fn exchange_with<R: Rewriter>(
         &mut self,
@@ -101,6 +104,7 @@ impl<A: Allocator> JobMemory<A> {
 
     // Writes other words over those of a block, which one reference names. A rewriter writes them, and is lent the
     // words of other blocks for that.
+    #[tactic(auto, using(crate::proofs::Slots::live_within))]
     #[inline(always)]
     fn rewrite_with<R: Rewriter>(
         &mut self,

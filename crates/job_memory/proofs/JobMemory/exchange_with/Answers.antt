@@ -1,10 +1,10 @@
-use Rattle.std.proofs.Common.{◌∙◌, ℕ, ap, arith}
-use Rattle.job_memory.specs.JobBlocks.{with_block}
-use Rattle.job_memory.proofs.Rewritten.{IsHandedOver, IsTurnedOver, handed_over, owner_is, turned_over}
+use Rattle.std.proofs.Common.{arith}
+use Rattle.job_memory.proofs.Rewritten.{IsHandedOver, IsTurnedOver, handed_over, turned_over}
 use Rattle.job_memory.proofs.JobMemory.exchange_with.Given.{Over}
 use Rattle.job_memory.proofs.JobMemory.exchange_with.Goals as goal
 use Rattle.job_memory.proofs.JobMemory.exchange_with.Goals.{After-rewrite_with, After-releases_keep_blocks}
 
+-- The block is written over first; the references that go then leave it with what was written.
 known : (g : Over) (c : After-rewrite_with g) →
     IsHandedOver c.args.job c.args.id c.args.taken.now c.rewrite_with.ensures.words c.args.self.now
     c.rewrite_with.new.self
@@ -18,17 +18,6 @@ before : (g : Over) (c : After-releases_keep_blocks g) →
 before g c =
     turned_over c.releases_are_counted.ensures c.releases_keep_blocks.ensures c.args.job c.args.id c.args.taken.now
     c.args.self.now c.requires.own c.requires.listed c.requires.single
-
-pub share-requires-clause-live : goal.share-requires-clause-live
-share-requires-clause-live g c = (known g (goal.at.share-requires-clause-live g c).After-rewrite_with).live
-
-pub share-requires-clause-few : goal.share-requires-clause-few
-share-requires-clause-few g c =
-    omega (arith, (known g (goal.at.share-requires-clause-few g c).After-rewrite_with).single)
-
-pub release_all-requires-clause-has_grant : goal.release_all-requires-clause-has_grant
-release_all-requires-clause-has_grant g c =
-    rw (c.share.ensures, c.rewrite_with.ensures.rewritten) c.requires.has_grant
 
 pub release_all-requires-clause-own : goal.release_all-requires-clause-own
 release_all-requires-clause-own g c =
@@ -57,11 +46,10 @@ returns-in-Err-clause-fresh g c =
 pub returns-in-Err-clause-fault : goal.returns-in-Err-clause-fault
 returns-in-Err-clause-fault g c =
     let e = c.rewrite_with.ensures in
+    let owned = (before g (goal.at.returns-in-Err-clause-fault g c).After-releases_keep_blocks).owned in
     record {
       words = e.words;
       same_length = e.same_length;
       so = rw c.in-Err.is at e.so;
-      rewritten =
-          e.rewritten ∙ ap (λ (k : ℕ). with_block c.args.self.now k c.args.id e.words)
-          (owner_is c.args.job c.args.id c.args.taken.now c.args.self.now c.requires.own c.requires.listed);
+      rewritten = grind (arith, e.rewritten, owned);
     }

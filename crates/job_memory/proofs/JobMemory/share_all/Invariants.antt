@@ -7,6 +7,6 @@ abbrev pub invariant-loop-id : goal.invariant-loop-id
 invariant-loop-id g l = record {
   rest : state_after_shares l.self.memory (drop l.id-index l.ids) ≡ state_after_shares l.initial.self.memory l.ids;
   grants : l.self.grants ≡ l.initial.self.grants;
-  live : AreLive l.self.memory (drop l.id-index l.ids);
-  few : All (λ id. (slot_at l.self.memory id).count + (length l.ids - l.id-index) < 2 ^ 64) (drop l.id-index l.ids);
+  live : AreLive l.self.memory l.ids;
+  few : All (λ id. (slot_at l.self.memory id).count + (length l.ids - l.id-index) < 2 ^ 64) l.ids;
 }

@@ -1,10 +1,6 @@
-use Rattle.std.proofs.Common.{refl}
+use Rattle.job_memory.proofs.Slots.{only_blocks}
 use Rattle.job_memory.proofs.laws.releases_change_only_their_job.Goals as goal
 
 pub returns : goal.returns
-returns c = λ blocks job ids own. record {
-  memory = c.releasing_changes_only_own.ensures job blocks.memory ids own;
-  grants = λ other one ne. refl;
-  granted = refl;
-  jobs = refl;
-}
+returns c blocks job ids own =
+    only_blocks job blocks _ (c.releasing_changes_only_own.ensures job blocks.memory ids own)
