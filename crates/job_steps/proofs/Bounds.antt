@@ -1,10 +1,8 @@
 -- What holds of each state that a job reaches, whatever its program: counts and words within the limits, and tags.
-use Rattle.std.proofs.Common.{◌≡◌, ℕ, ◌+◌, ◌<◌, ◌≤◌, max, Bool, true, false, eqb, List, [], ◌∷◌, length, get_or, Option}
-use Rattle.std.proofs.Common.{None, ap, subst, arith, zero, suc}
+use Rattle.std.proofs.Common.{◌≡◌, ℕ, ◌+◌, ◌<◌, ◌≤◌, max, true, List, [], ◌∷◌, length, get_or, Option, None, subst}
+use Rattle.std.proofs.Common.{arith, zero, suc}
 use Rattle.std.specs.Prelude.{All}
-use Rattle.std.proofs.Math.Nat.{max-le, le-max_right}
-use Rattle.std.proofs.lemmas.Bool.Decides.{nat_tests}
-use Rattle.std.proofs.lemmas.List.Elements.{All-nil, All-cons, All-weaker}
+use Rattle.std.proofs.lemmas.List.Elements.{All-nil, All-weaker}
 use Rattle.vcode_base.specs.declared.fault.DataFault.{DataFault}
 use Rattle.vcode_base.specs.declared.fault.MemoryFault.{MemoryFault}
 use Rattle.vcode_base.specs.declared.limits.Limits.{Limits}
@@ -14,18 +12,16 @@ use Rattle.vcode_base.specs.declared.rule.Rule.{Rule}
 use Rattle.vcode_base.specs.Instructions.{op_of}
 use Rattle.vcode_base.specs.Laws.{ResultsHaveNeededLengths}
 use Rattle.vcode_base.specs.Meaning.{shape}
-use Rattle.vcode_reader.specs.Trees.{Item, Body}
-use Rattle.verifier.specs.Typed.{TypedProgram}
+use Rattle.vcode_reader.specs.Trees.{Item}
 use Rattle.job_steps.specs.Motions.{stack_after, depth_after}
 use Rattle.job_steps.specs.Reached.{AreAlike}
 use Rattle.job_steps.specs.Runs.{progress_from, state_after}
 use Rattle.job_steps.specs.States.{Vector, Task, StackEntry, Active, State, held_words, new_entries}
 use Rattle.job_steps.specs.Steps.{Progress, Running, Over, next_item, sources_of, question_of, results_of, words_at}
-use Rattle.job_steps.specs.Steps.{is_call, memory_fault, ending_by, calls_after, next_progress}
+use Rattle.job_steps.specs.Steps.{is_call, memory_fault, ending_by, next_progress}
 use Rattle.job_steps.proofs.Held.{Agree}
 use Rattle.job_steps.proofs.Progresses.{item_of, calls_then, Passes, goes}
-use Rattle.job_steps.proofs.StackLemmas.{deep_of, All-stack_after, length-stack_after, length-results, held_after}
-use Rattle.job_steps.proofs.StackLemmas.{total_results}
+use Rattle.job_steps.proofs.StackLemmas.{deep_of, All-stack_after, length-stack_after, held_after, total_results}
 
 -- ---- the checks before an instruction
 
@@ -54,24 +50,19 @@ fits_at task s call outer p = fits task.limits _ _ _ _ (neither (next_item call)
 
 -- ---- the calls afterwards
 
-length-calls_after : (verified : TypedProgram) (flag : Bool) (body : Body) (ret : ℕ) (outer : List Active) (most : ℕ) →
-    suc (length outer) ≤ most → (is_call (op_of (item_of (record { rest = body; ret = ret }))) ≡ true →
-    suc (length outer) + 1 ≤ most) → length (calls_after verified flag body ret outer) ≤ most
-length-calls_after verified flag body ret outer most now more = grind arith
-
 -- ---- new entries
 
 tags_below : (next : ℕ) (vs : List Vector) → All (λ e. e.tag < next + length vs) (new_entries next vs)
 tags_below next [] = All-nil (λ e. e.tag < next + 0)
-tags_below next (v ∷ vs) = grind (arith, All-cons, All-weaker, (tags_below (next + 1) vs))
+tags_below next (v ∷ vs) = grind (arith, (tags_below (next + 1) vs))
 
 tags_from : (next : ℕ) (vs : List Vector) → All (λ e. next ≤ e.tag) (new_entries next vs)
 tags_from next [] = All-nil (λ e. next ≤ e.tag)
-tags_from next (v ∷ vs) = grind (arith, All-cons, All-weaker, (tags_from (next + 1) vs))
+tags_from next (v ∷ vs) = grind (arith, (tags_from (next + 1) vs))
 
 new_agree : (next : ℕ) (vs : List Vector) → Agree (new_entries next vs)
 new_agree next [] = All-nil (λ e. All (AreAlike e) [])
-new_agree next (v ∷ vs) = grind (arith, tags_from, All-cons, All-weaker, (new_agree (next + 1) vs))
+new_agree next (v ∷ vs) = grind (arith, tags_from, (new_agree (next + 1) vs))
 
 agree_after : (op : Op) (rs xs : List StackEntry) → Agree rs →
     ((k : ℕ) (d : StackEntry) → k < length rs → All (AreAlike (get_or rs k d)) xs) →
@@ -105,9 +96,6 @@ state_past rule item s calls = record {
   peak = max s.peak (words_at rule item s);
 }
 
-pub unspent_within : (n budget : ℕ) → eqb n budget ≡ false → n ≤ budget → n + 1 ≤ budget
-unspent_within n budget e h = grind (arith, nat_tests, e, h)
-
 bounded_past : ResultsHaveNeededLengths → (task : Task) (n : ℕ) (s : State) (call : Active) (outer : List Active) →
     IsBounded task n s → Passes task s call outer → IsBounded task (n + 1)
     (state_past task.rule (item_of call) s (calls_then task s call outer))
@@ -121,25 +109,12 @@ bounded_past law task n s call outer b p =
     let young : (k : ℕ) (d : StackEntry) → k < length new → s.next ≤ (get_or new k d).tag = tags_from s.next results in
     let total = total_results law s.next (item_of call) s.stack deep (shaped task s call outer p) p.late in
     let after = held_after task.rule (item_of call) new s b.alike in
-    let long : length s.calls ≡ suc (length outer) = ap length p.calls in
-    record {
-      count = ap (λ k. k + 1) b.count;
-      budget = unspent_within n task.limits.budget (rw b.count at p.unspent) b.budget;
-      tags = All-stack_after (λ e. e.tag < s.next + length results) op new s.stack (tags_below s.next results)
-          (All-weaker (λ e. e.tag < s.next) (λ e. e.tag < s.next + length results) (λ e h. omega arith) s.stack
-          b.tags);
-      alike = agree_after op new s.stack (new_agree s.next results)
-          (λ k d h j f g. λ e. absurd (omega (arith, young k d h, old j f g)))
-          (λ k d h j f g. λ e. absurd (omega (arith, young j f g, old k d h)))
-          b.alike;
-      words = omega (arith, after, total, fit.words_fit);
-      held = omega (arith, after, total, le-max_right s.peak (words_at task.rule (item_of call) s));
-      highest = max-le b.highest fit.words_fit;
-      cells = rw (length-stack_after op new s.stack (length-results s.next (question_of (item_of call) s.stack)) deep)
-          fit.cells_fit;
-      calls = length-calls_after task.verified _ call.rest call.ret outer task.limits.calls
-          (omega (arith, b.calls, long)) (λ h. omega (arith, fit.calls_fit h, long));
-    }
+    let tags = All-stack_after (λ e. e.tag < s.next + length results) op new s.stack (tags_below s.next results)
+    (All-weaker (λ e. e.tag < s.next) (λ e. e.tag < s.next + length results) (λ e h. omega arith) s.stack b.tags) in
+    let alike = agree_after op new s.stack (new_agree s.next results)
+    (λ k d h j f g. λ e. absurd (omega (arith, young k d h, old j f g)))
+    (λ k d h j f g. λ e. absurd (omega (arith, young j f g, old k d h))) b.alike in
+    grind (arith, length-stack_after)
 
 -- ---- runs
 
@@ -148,7 +123,7 @@ over_running ending x p s e = cc
 
 pub running_from : (task : Task) (p : Progress) (s : State) → progress_from task p ≡ Running s →
     (t : State) × (p ≡ Running t) × (next_progress task t ≡ Running s)
-running_from task p s e = grind (arith, over_running)
+running_from task p s e = grind arith
 
 -- a step that goes on
 pub record Went (task : Task) (s next : State) : Type 0 where
@@ -161,7 +136,7 @@ pub record Went (task : Task) (s next : State) : Type 0 where
   pub new : state_past task.rule (item_of call) s (last ∷ others) ≡ next
 
 pub went : (task : Task) (s next : State) → next_progress task s ≡ Running next → Went task s next
-went task s next e = let h = goes task s in grind (arith, over_running)
+went task s next e = let h = goes task s in grind arith
 
 pub bounded_next : ResultsHaveNeededLengths → (task : Task) (n : ℕ) (s next : State) → IsBounded task n s →
     Went task s next → IsBounded task (n + 1) next

@@ -1,6 +1,5 @@
 -- What an open event changes.
-use Rattle.std.proofs.Common.{arith, ◌≡◌, ℕ, ◌+◌, true, false, List, Option, Some, None, is_some, refl, sym, ◌∙◌, ap}
-use Rattle.std.proofs.lemmas.Bool.{false≢true}
+use Rattle.std.proofs.Common.{rules, arith, ◌≡◌, ℕ, ◌+◌, true, false, List, Option, Some, None, is_some, refl, sym, ap}
 use Rattle.std.proofs.lemmas.Option.{none-some, same_Some}
 use Rattle.job_steps.specs.declared.event.Event.{Event}
 use Rattle.job_steps.specs.declared.event.Event.TheVariants.{Admit, Begin, Finish, Recall, Collect}
@@ -103,7 +102,7 @@ module _ (region : ℕ) (tasks : List Task) (event : Event) (queue : Queue) wher
   happens = happens_job _ refl
 
   pub opens : is_open region tasks event queue ≡ true → Opens region tasks event queue
-  opens can = grind (arith, false≢true, happens)
+  opens can = grind (arith, happens)
 
   -- an event is open if its job has a next standing by it
   pub open_where : (job : ℕ) (task : Task) (old new : Standing) → job_of region tasks event queue ≡ Some job →
@@ -113,26 +112,20 @@ module _ (region : ℕ) (tasks : List Task) (event : Event) (queue : Queue) wher
 
   -- the job that an event names is its job
   pub named : (job : ℕ) → named_job event ≡ Some job → job_of region tasks event queue ≡ Some job
-  named job e = grind (arith, none-some)
+  named job e = grind arith
 
   -- ---- an event by its job
 
   pub changes_its_job : (job : ℕ) (task : Task) (old : Standing) → job_of region tasks event queue ≡ Some job →
       of_job job tasks ≡ Some task → of_job job queue.standings ≡ Some old →
       ChangesItsJob region tasks event queue job task old
-  changes_its_job job task old job_is task_is old_is =
-      let c = comes region tasks event queue (Some job) (next_standing event task old) job_is
-      (λ i. next_standing_in event (task_is i) (old_is i)) in
-      record {
-        open_where = c.can;
-        passed = λ none. c.after ∙ ap (λ o. with_next event (Some job) o queue) none;
-        changed = λ new is. c.after ∙ ap (λ o. with_next event (Some job) o queue) is;
-      }
+  unfolding is_open after_event
+  changes_its_job job task old job_is task_is old_is = search (rules)
 
   pub closed_changes_nothing : is_open region tasks event queue ≡ false →
       after_event region tasks event queue ≡ queue
-  closed_changes_nothing closed = grind (arith, false≢true, happens)
+  closed_changes_nothing closed = grind (arith, happens)
 
   pub missing_is_closed : (job : ℕ) → named_job event ≡ Some job → of_job job queue.standings ≡ None →
       is_open region tasks event queue ≡ false
-  missing_is_closed job e missing = grind (arith, comes, named)
+  missing_is_closed job e missing = grind (arith, comes)

@@ -2,7 +2,7 @@
 use Rattle.std.proofs.Common.{rules, ◌≡◌, ℕ, ◌+◌, ◌≤◌, Bool, true, false, cond, eqb, not, List, [], ◌∷◌, ◌++◌, length}
 use Rattle.std.proofs.Common.{refl, sym, ap, subst, inl, inr, arith}
 use Rattle.std.specs.Prelude.{All, ◌⊎◌, filter}
-use Rattle.std.proofs.lemmas.List.Elements.{All-nil, All-cons, All-head, All-tail, All-weaker, All-filter}
+use Rattle.std.proofs.lemmas.List.Elements.{All-nil, All-head, All-tail, All-weaker, All-filter}
 use Rattle.job_steps.specs.States.{Vector, StackEntry, has_tag, held_words}
 use Rattle.job_steps.specs.Reached.{AreAlike}
 
@@ -13,7 +13,7 @@ Has (x ∷ xs) e = (x ≡ e) ⊎ Has xs e
 
 pub has_itself : (xs : List StackEntry) → All (Has xs) xs
 has_itself [] = All-nil (Has [])
-has_itself (x ∷ xs) = grind (arith, All-cons, Has, All-weaker, (has_itself xs))
+has_itself (x ∷ xs) = grind (arith, (has_itself xs))
 
 -- the entries of other tags
 abbrev others : ℕ → List StackEntry → List StackEntry
@@ -25,21 +25,19 @@ IsLong tag size e = e.tag ≡ tag → length e.value.words ≡ size
 
 others_same : (tag : ℕ) (xs : List StackEntry) → has_tag tag xs ≡ false → others tag xs ≡ xs
 others_same tag [] e = refl
-others_same tag (x ∷ xs) e = grind (arith, others, (others_same tag xs))
+others_same tag (x ∷ xs) e = grind (arith, (others_same tag xs))
 
 has_others : (tag other : ℕ) (xs : List StackEntry) → eqb other tag ≡ false →
     has_tag other (others tag xs) ≡ has_tag other xs
 has_others tag other [] d = refl
-has_others tag other (x ∷ xs) d = grind (arith, others, (has_others tag other xs d))
+has_others tag other (x ∷ xs) d = grind (arith, (has_others tag other xs d))
 
 -- a tag's value counts once
 held_others : (tag size : ℕ) (xs : List StackEntry) → All (IsLong tag size) xs → has_tag tag xs ≡ true →
     held_words xs ≡ size + held_words (others tag xs)
 held_others tag size [] long e = absurd (let h : false ≡ true = e in cc)
 held_others tag size (x ∷ xs) long e =
-    let here = All-head (IsLong tag size) x xs long in
-    let later = held_others tag size xs (All-tail (IsLong tag size) x xs long) in
-    grind (arith, others, others_same, has_others, here, later)
+    grind (arith, All-head, others_same, has_others, held_others tag size xs (All-tail (IsLong tag size) x xs long))
 
 kept : (tag : ℕ) (xs : List StackEntry) (e : StackEntry) → eqb e.tag tag ≡ false → Has xs e → Has (others tag xs) e
 kept tag [] e d h = absurd h
@@ -51,7 +49,7 @@ has_tagged (x ∷ xs) e h = grind (arith, (has_tagged xs))
 
 untagged : (tag : ℕ) (xs : List StackEntry) → has_tag tag xs ≡ false → All (λ e. eqb e.tag tag ≡ false) xs
 untagged tag [] h = All-nil (λ e. eqb e.tag tag ≡ false)
-untagged tag (x ∷ xs) h = grind (arith, All-cons, (untagged tag xs))
+untagged tag (x ∷ xs) h = grind (arith, (untagged tag xs))
 
 All-has : (P : StackEntry → Type 0) (xs : List StackEntry) (e : StackEntry) → All P xs → Has xs e → P e
 All-has P [] e all h = absurd h
@@ -72,7 +70,7 @@ among_others : (tag : ℕ) (xs ys : List StackEntry) → All (λ e. eqb e.tag ta
 among_others tag xs [] p q = All-nil (Has (others tag xs))
 among_others tag xs (y ∷ ys) p q =
     let rest = among_others tag xs ys (All-tail (λ e. eqb e.tag tag ≡ false) y ys p) (All-tail (Has xs) y ys q) in
-    search (rules, All-cons, kept, All-head, rest)
+    search (rules, kept)
 
 among_chosen : (y : StackEntry) (ys xs : List StackEntry) → All (Has xs) (y ∷ ys) → Agree xs →
     ((zs : List StackEntry) → All (Has zs) ys → Agree zs → held_words ys ≤ held_words zs) → (b : Bool) →

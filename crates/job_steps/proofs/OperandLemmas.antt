@@ -1,4 +1,5 @@
 -- Operands: lists one after another, and those of a question.
+use Rattle.std.proofs.lemmas.Bool.Decides.{Decides-and, Decides-int_eq, Decides-like}
 use Rattle.std.proofs.Common.{rules, ◌≡◌, ℕ, ℤ, ◌+◌, ◌≤◌, List, [], ◌∷◌, length, length-take-le, map, take, drop, sum}
 use Rattle.std.proofs.Common.{get_or, refl, ap, arith, zero, suc, Bool}
 use Rattle.std.proofs.Math.Seq.{take-append_seam, drop-append_seam}
@@ -10,9 +11,7 @@ use Rattle.std.specs.Borrow.{Bor}
 use Rattle.std.specs.Bool.{Decides}
 use Rattle.std.specs.Cmp.Lexicographic.{pointwise}
 use Rattle.std.specs.Ordering.{int_eq}
-use Rattle.std.proofs.lemmas.Bool.Decides.{Decides-and, Decides-at, Decides-int_eq, Decides-like}
 use Rattle.std.proofs.lemmas.Slice.Eq.{slice_eq-Decides}
-use Rattle.vcode_base.specs.declared.kind.Kind.{Kind}
 use Rattle.vcode_base.specs.declared.op.Op.{Op}
 use Rattle.vcode_base.specs.Kinds.{HaveKinds, source_kinds}
 use Rattle.vcode_base.specs.Operands.{contents}
@@ -73,18 +72,8 @@ pub length-in_a_row : (lists : List (List ℤ)) → length (in_a_row lists) ≡ 
 length-in_a_row [] = refl
 length-in_a_row (list ∷ lists) = search (rules, length-append, sum_by-cons, (length-in_a_row lists))
 
-at_most_five : (op : Op) → length (source_kinds op) ≤ 5
-at_most_five op = grind arith
-
-as_many_kinds : (ks : List Kind) (xs : List (List ℤ)) → HaveKinds ks xs → length xs ≡ length ks
-as_many_kinds [] xs h = grind arith
-as_many_kinds (k ∷ ks) xs h = grind (arith, (as_many_kinds ks))
-
-pub few_operands : (op : Op) (xs : List (List ℤ)) → HaveKinds (source_kinds op) xs → length xs ≤ 5
-few_operands op xs h = omega (arith, as_many_kinds (source_kinds op) xs h, at_most_five op)
-
 pub few_lent : (op : Op) (refs : List (Bor (List ℤ))) → HaveKinds (source_kinds op) (contents refs) → length refs ≤ 5
-few_lent op refs h = omega (arith, few_operands op (contents refs) h, length-map refs (λ r. r.now))
+few_lent op refs h = grind (arith, length-map)
 
 -- the front of what is lent
 pub contents_in_front : (count : ℕ) (refs : List (Bor (List ℤ))) (xs : List (List ℤ)) → count ≡ length xs →
@@ -110,4 +99,4 @@ same_contents (x ∷ xs) (y ∷ ys) =
 -- whether the lists that these lend are those
 pub same_lists : (r : Bool) (refs others : List (Bor (List ℤ))) (lists : List (List ℤ)) → contents refs ≡ lists →
     r ≡ pointwise (λ x y. pointwise int_eq x.now y.now) refs others → Decides r (lists ≡ contents others)
-same_lists r refs others lists are is = grind (arith, Decides-at, same_contents)
+same_lists r refs others lists are is = grind (arith, same_contents)

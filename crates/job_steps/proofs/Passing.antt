@@ -6,8 +6,7 @@ use Rattle.std.proofs.lemmas.List.{drop-drop}
 use Rattle.vcode_base.specs.declared.instr.Instr.TheVariants.{Return}
 use Rattle.vcode_reader.specs.declared.line.CodeItem.{CodeItem}
 use Rattle.vcode_reader.specs.Decode.{Tail, Waits, ForElse, ForIf, before, before_else, before_if, tail_of, then_body}
-use Rattle.vcode_reader.specs.Targets.{Jumps, first_of, jumps_before, jumps_from, target_in, target_at}
-use Rattle.vcode_reader.specs.Targets.{EachTargetIsFirst}
+use Rattle.vcode_reader.specs.Targets.{first_of, jumps_before, jumps_from, target_in, target_at, EachTargetIsFirst}
 use Rattle.vcode_reader.specs.Trees.{Item, Body, End, Do, Choice, CodeLine, Function, line_of, instruction_line}
 use Rattle.vcode_reader.specs.Trees.{body_lines, lines_of}
 use Rattle.job_steps.specs.Frames.{rest_behind, rest_of_tail, remaining, EachLineRemains}
@@ -32,20 +31,12 @@ then_assoc (Choice l x y e a) b c = ap (Choice l x y e) (then_assoc a b c)
 unfoldable pub then_tail : Body → Tail → Tail
 then_tail b t = record { body = then_body b t.body; waits = t.waits }
 
-regroup : (x y b rest : List CodeLine) (i m n : CodeLine) → (i ∷ (x ++ (m ∷ (y ++ (n ∷ b))))) ++ rest ≡ i ∷
-    (x ++ (m ∷ (y ++ (n ∷ (b ++ rest)))))
-regroup x y b rest i m n = simp append_assoc
-
 pub tail_of_body : (b : Body) (xs : List CodeLine) → tail_of (body_lines b ++ xs) ≡ then_tail b (tail_of xs)
 unfolding tail_of then_tail then_body
 tail_of_body End xs = refl
 tail_of_body (Do i l b) xs = ap (before (code_item.Do i) l) (tail_of_body b xs)
 tail_of_body (Choice l x y e b) xs =
-    grind (arith, regroup, then_end, (tail_of_body x), (tail_of_body y), (tail_of_body b xs))
-
-waits_of_body : (b : Body) (xs : List CodeLine) → (tail_of (body_lines b ++ xs)).waits ≡ (tail_of xs).waits
-unfolding then_tail
-waits_of_body b xs = ap (λ (t : Tail). t.waits) (tail_of_body b xs)
+    grind (arith, append_assoc, then_end, (tail_of_body x), (tail_of_body y), (tail_of_body b xs))
 
 -- what remains of a function from its first line on is all of it
 pub remaining_of_all : (f : Function) → remaining (lines_of f) ≡ then_body f.body (Do Return f.ret End)
@@ -70,11 +61,11 @@ fits_drop zero xs h = h
 fits_drop (suc n) xs h = grind (arith, (fits_drop n))
 
 fits_body : (b : Body) (xs : List CodeLine) → Fits xs → Fits (body_lines b ++ xs)
-unfolding tail_of
+unfolding tail_of then_tail
 fits_body End xs h = h
 fits_body (Do i l b) xs h = (tt, fits_body b xs h)
 fits_body (Choice l x y e b) xs h =
-    grind (arith, regroup, waits_of_body, (fits_body x), (fits_body y), (fits_body b xs h))
+    grind (arith, append_assoc, tail_of_body, (fits_body x), (fits_body y), (fits_body b xs h))
 
 fits : (f : Function) → Fits (lines_of f)
 unfolding tail_of
@@ -96,11 +87,6 @@ sooner : (whole : List CodeLine) (p : ℕ) (ws : List Waits) (qs : List ℕ) →
 sooner whole p [] qs h = tt
 sooner whole p (w ∷ ws) qs h = grind (arith, (sooner whole p ws))
 
-agree_before : (whole : List CodeLine) (p : ℕ) (i : CodeItem Item) (l : ℕ) (t : Tail) (j : Jumps) →
-    FitsBefore i t.waits → tail_of (drop (p + 1) whole) ≡ t → Agree whole p t.waits j.waits →
-    Agree whole p (before i l t).waits (jumps_before i p j).waits
-agree_before whole p i l t j fit at h = grind arith
-
 pub next_lines : (whole : List CodeLine) (p : ℕ) (x : CodeLine) (xs : List CodeLine) → drop p whole ≡ x ∷ xs →
     drop (p + 1) whole ≡ xs
 next_lines whole p x xs h = sym (drop-drop 1 p whole) ∙ ap (drop 1) h
@@ -109,7 +95,7 @@ agree : (whole : List CodeLine) (p : ℕ) (xs : List CodeLine) → drop p whole 
     Agree whole p (tail_of xs).waits (jumps_from p xs).waits
 unfolding tail_of jumps_from
 agree whole p [] at fit = tt
-agree whole p (x ∷ xs) at fit = grind (arith, next_lines, agree_before, sooner, (agree whole (p + 1) xs))
+agree whole p (x ∷ xs) at fit = grind (arith, next_lines, sooner, (agree whole (p + 1) xs))
 
 -- ---- what an ELSE and an IF go on with
 
@@ -161,9 +147,6 @@ chooses_by whole p l b (ForIf s e r ∷ ws) (q ∷ qs) fit h target here on = re
 chooses_by whole p l b ws qs fit h target here on = absurd fit
 
 module _ (f : Function) (p l : ℕ) (xs : List CodeLine) where
-  whole : List CodeLine
-  whole = lines_of f
-
   fits_there : (x : CodeLine) → drop p (lines_of f) ≡ x ∷ xs → Fits (x ∷ xs)
   fits_there x at = subst Fits at (fits_drop p (lines_of f) (fits f))
 
@@ -200,41 +183,10 @@ pub remaining_do : (i : Item) (l : ℕ) (xs : List CodeLine) → remaining (inst
 unfolding tail_of then_body
 remaining_do i l xs = refl
 
-pub remaining_endif : (l : ℕ) (xs : List CodeLine) → remaining (line_of code_item.Endif l ∷ xs) ≡ remaining xs
-unfolding tail_of then_body
-remaining_endif l xs = refl
-
 pub remaining_nothing : remaining [] ≡ End
 unfolding tail_of then_body
 remaining_nothing = refl
 
--- the parts of an IF, with an ENDIF after the second
-module _ (first second : Body) (end : ℕ) (rest : List CodeLine) where
-  tail : Tail
-  tail = tail_of rest
-
-  tail_at_endif : tail_of (body_lines second ++ line_of code_item.Endif end ∷ rest) ≡ record
-      { body = second; waits = ForElse end (tail_of rest).body ∷ (tail_of rest).waits }
-  unfolding tail_of then_tail then_body
-  tail_at_endif = grind (arith, tail_of_body, line_of, then_end)
-
-  tail_at_else : (number : ℕ) → tail_of (body_lines first ++ line_of code_item.Else number ∷
-      (body_lines second ++ line_of code_item.Endif end ∷ rest)) ≡ record
-      { body = first; waits = ForIf second end (tail_of rest).body ∷ (tail_of rest).waits }
-  unfolding tail_of then_tail then_body
-  tail_at_else number = grind (arith, tail_of_body, then_tail, tail_at_endif, then_end)
-
-  remaining_else : (number : ℕ) → remaining (line_of code_item.Else number ∷
-      (body_lines second ++ line_of code_item.Endif end ∷ rest)) ≡ remaining rest
-  unfolding tail_of then_body
-  remaining_else number = ap (λ t. rest_of_tail (before code_item.Else number t)) tail_at_endif
-
-  remaining_if : (line number : ℕ) → remaining (line_of code_item.If line ∷
-      (body_lines first ++ line_of code_item.Else number ∷ (body_lines second ++ line_of code_item.Endif end ∷ rest))) ≡
-      Choice line first second end (remaining rest)
-  unfolding tail_of then_body
-  remaining_if line number = ap (λ t. rest_of_tail (before code_item.If line t)) (tail_at_else number)
-
 pub each_line_remains : EachLineRemains
-each_line_remains item line number end first second rest =
-    grind (arith, remaining_nothing, remaining_do, remaining_if, remaining_else, remaining_endif)
+unfolding tail_of then_body then_tail
+each_line_remains item line number end first second rest = grind (arith, tail_of_body, then_end)

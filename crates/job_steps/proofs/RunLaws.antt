@@ -7,7 +7,7 @@ use Rattle.vcode_base.specs.Laws.{ResultsHaveNeededLengths}
 use Rattle.job_steps.specs.Runs.{progress_from, state_after, whole_run, outcome, executed_count, peak}
 use Rattle.job_steps.specs.States.{Vector, Task, State}
 use Rattle.job_steps.specs.Steps.{Progress, Running, Over, Stuck, next_progress}
-use Rattle.job_steps.proofs.Bounds.{bounded, over_running, fits_at, unspent_within}
+use Rattle.job_steps.proofs.Bounds.{bounded, over_running, fits_at}
 use Rattle.job_steps.proofs.Progresses.{goes}
 
 -- what holds of the first state, and of what each state leads to, holds after each number of steps
@@ -31,9 +31,6 @@ pub over_stays : (task : Task) (n later : ℕ) (ending : Outcome (List Vector)) 
     state_after task n ≡ Over ending x p → state_after task (n + later) ≡ Over ending x p
 over_stays task n later ending x p = stays task (Over ending x p) refl n later
 
-pub over_stuck : (ending : Outcome (List Vector)) (x p : ℕ) → Over ending x p ≡ Stuck → ⊥
-over_stuck ending x p e = cc
-
 pub running_stuck : (s : State) → Running s ≡ Stuck → ⊥
 running_stuck s e = cc
 
@@ -49,7 +46,7 @@ pub within : ResultsHaveNeededLengths → (task : Task) (n : ℕ) (ending : Outc
 within law task n ending x p =
     by_runs task (λ q. q ≡ Over ending x p → AreWithin task x p) (λ e. absurd (over_running ending x p _ (sym e)))
     (λ m s is e. let b = bounded law task m s is in let h = goes task s in
-    grind (arith, over_stuck, fits_at, max-le, unspent_within, over_running)) n
+    grind (arith, fits_at, max-le, over_running)) n
 
 -- ---- the end is the job's own
 

@@ -1,6 +1,7 @@
 -- The kinds of stacks, and the stack after an instruction: how many entries it has, and which these are.
-use Rattle.std.proofs.Common.{◌≡◌, ℕ, ◌+◌, ◌≤◌, true, List, [], ◌∷◌, ◌++◌, length, map, take, drop, refl, sym, ◌∙◌, ap}
-use Rattle.std.proofs.Common.{arith, None, subst, zero, suc}
+use Rattle.std.proofs.lemmas.Grind.{common_steps}
+use Rattle.std.proofs.Common.{rules, ◌≡◌, ℕ, ◌+◌, ◌≤◌, true, List, [], ◌∷◌, ◌++◌, length, map, take, drop, refl, sym}
+use Rattle.std.proofs.Common.{◌∙◌, ap, arith, None, subst, zero, suc}
 use Rattle.std.specs.Prelude.{reverse, All}
 use Rattle.std.proofs.lemmas.List.{length-append, length-take, length-drop, length-reverse, length-map, map-append}
 use Rattle.std.proofs.lemmas.List.{reverse-append, reverse-reverse, take-append-drop, append_assoc}
@@ -14,7 +15,6 @@ use Rattle.job_steps.specs.Steps.{has_on_top, sources_of, question_of, results_o
 use Rattle.std.proofs.lemmas.List.Elements.{All-append, All-take, All-drop, All-nil, All-cons, All-head, All-tail}
 use Rattle.vcode_base.specs.declared.op.Op.{Op}
 use Rattle.vcode_base.specs.declared.op.Op.TheVariants.{Move}
-use Rattle.vcode_base.specs.declared.op.StackMove.TheVariants.{Copy, Pop, MoveToTop}
 use Rattle.vcode_base.specs.declared.rule.Rule.{Rule}
 use Rattle.vcode_base.specs.Instructions.{op_of}
 use Rattle.vcode_base.specs.Laws.{ResultsHaveNeededLengths}
@@ -30,9 +30,6 @@ kind_of e = e.value.kind
 
 pub stack_kinds-append : (xs ys : List StackEntry) → stack_kinds (xs ++ ys) ≡ stack_kinds ys ++ stack_kinds xs
 stack_kinds-append xs ys = ap reverse (map-append kind_of xs ys) ∙ reverse-append (map kind_of xs) (map kind_of ys)
-
-pub length-stack_kinds : (xs : List StackEntry) → length (stack_kinds xs) ≡ length xs
-length-stack_kinds xs = length-reverse (map kind_of xs) ∙ length-map xs kind_of
 
 pub reverse-cons : {A : Type 0} (x : A) (xs : List A) → reverse (x ∷ xs) ≡ reverse xs ++ x ∷ []
 reverse-cons x xs = reverse-append (x ∷ []) xs
@@ -61,14 +58,9 @@ pub record IsCut (stack : List StackEntry) (below own : List Kind) : Type 0 wher
 
 pub cut : (stack : List StackEntry) (below own : List Kind) → stack_kinds stack ≡ below ++ own → IsCut stack below own
 cut stack below own e =
-    let deep : length own ≤ length stack = omega
-    (arith, length-stack_kinds stack, ap length e, length-append below own) in
-    let whole : stack_kinds (drop (length own) stack) ++ stack_kinds (take (length own) stack) ≡ below ++ own =
-    sym (stack_kinds-append (take (length own) stack) (drop (length own) stack)) ∙
-    (ap stack_kinds (take-append-drop (length own) stack) ∙ e) in
-    let parts = split_same _ _ below own whole
-    (omega (arith, length-stack_kinds (take (length own) stack), length-take (length own) stack)) in
-    record { deep = deep; top = parts.back; under = parts.front }
+    let whole = stack_kinds-append (take (length own) stack) (drop (length own) stack) in
+    let parts = split_same (stack_kinds (drop (length own) stack)) (stack_kinds (take (length own) stack)) below own in
+    grind (arith, length-reverse, length-map, length-append, take-append-drop, length-take)
 
 -- ---- the test of kinds
 
@@ -85,25 +77,15 @@ same_lengths (k ∷ ks) ls e = grind (arith, (same_lengths ks))
 
 -- entries of these kinds are there
 pub there : (own : List Kind) (stack : List StackEntry) → has_on_top own stack ≡ true → length own ≤ length stack
-there own stack e = grind (arith, same_lengths, length-stack_kinds, length-take)
+there own stack e = grind (arith, same_lengths, length-reverse, length-map, length-take)
 
 -- ---- the kinds of results, and of entries that are moved
-
-kinds-move : (motion : StackMove) (lower upper : List StackEntry) →
-    map kind_of (entries_after_move motion lower upper) ≡ entries_after_move motion (map kind_of lower)
-    (map kind_of upper)
-kinds-move motion lower upper = grind (arith, map-append, kind_of)
 
 -- an instruction that replaces the top entries
 pub kinds-pushed : (stack : List StackEntry) (below own gives : List Kind) (results : List StackEntry) →
     IsCut stack below own → map kind_of results ≡ gives → stack_kinds (reverse results ++ drop (length own) stack) ≡
     below ++ gives
-kinds-pushed stack below own gives results c e =
-    grind (arith, stack_kinds-append, map-reverse, kind_of, reverse-reverse)
-
-pub kinds-top_entries : (count : ℕ) (stack : List StackEntry) (own : List Kind) → stack_kinds (take count stack) ≡ own →
-    map kind_of (top_entries count stack) ≡ own
-kinds-top_entries count stack own e = map-reverse kind_of (take count stack) ∙ e
+kinds-pushed stack below own gives results c e = grind (arith, stack_kinds-append, map-reverse, reverse-reverse)
 
 -- a motion
 pub kinds-moved : (motion : StackMove) (stack : List StackEntry) (below lower upper : List Kind) →
@@ -114,12 +96,7 @@ kinds-moved motion stack below lower upper e =
     let second = cut (drop (length upper) stack) below lower first.under in
     let low = top_entries (length lower) (drop (length upper) stack) in
     let up = top_entries (length upper) stack in
-    let moved : map kind_of (entries_after_move motion low up) ≡ entries_after_move motion lower upper =
-    grind (arith, kinds-move, kinds-top_entries, first, second) in (
-      omega (arith, first.deep, second.deep, length-drop (length upper) stack),
-      kinds-pushed (drop (length upper) stack) below lower (entries_after_move motion lower upper)
-          (entries_after_move motion low up) second moved,
-    )
+    grind (arith, map-append, map-reverse, length-drop, kinds-pushed)
 
 -- ---- what holds of each entry
 
@@ -131,37 +108,25 @@ All-reverse P (x ∷ xs) all =
 
 All-move : {E : Type 0} (P : E → Type 0) (motion : StackMove) (lower upper : List E) → All P lower → All P upper →
     All P (entries_after_move motion lower upper)
-All-move P Copy lower upper l u = All-append P lower (upper ++ lower) l (All-append P upper lower u l)
-All-move P Pop lower upper l u = u
-All-move P MoveToTop lower upper l u = All-append P upper lower u l
+All-move P motion lower upper l u = grind (arith, common_steps)
 
 All-stack_after_move : {E : Type 0} (P : E → Type 0) (motion : StackMove) (lower upper : ℕ) (stack : List E) →
     All P stack → All P (stack_after_move motion lower upper stack)
 All-stack_after_move P motion lower upper stack all =
-    let under : All P (drop upper stack) = All-drop P upper stack all in
-    All-append P (reverse (entries_after_move motion (top_entries lower (drop upper stack)) (top_entries upper stack)))
-    (drop lower (drop upper stack)) (All-reverse P
-    (entries_after_move motion (top_entries lower (drop upper stack)) (top_entries upper stack))
-    (All-move P motion (top_entries lower (drop upper stack)) (top_entries upper stack)
-    (All-reverse P (take lower (drop upper stack)) (All-take P lower (drop upper stack) under))
-    (All-reverse P (take upper stack) (All-take P upper stack all)))) (All-drop P lower (drop upper stack) under)
+    search (rules, All-append, All-reverse, All-move, All-take, All-drop) depth 9
 
 -- Each entry is a result or an entry of the stack before.
 pub All-stack_after : {E : Type 0} (P : E → Type 0) (op : Op) (results stack : List E) → All P results → All P stack →
     All P (stack_after op results stack)
 All-stack_after P (Move motion lower upper) results stack new old = All-stack_after_move P motion lower upper stack old
-All-stack_after P op results stack new old =
-    All-append P (reverse results) (drop (operand_count op) stack) (All-reverse P results new)
-    (All-drop P (operand_count op) stack old)
+All-stack_after P op results stack new old = search (rules, All-append, All-reverse, All-drop)
 
 -- ---- how many entries there are
 
 -- with as many results as there are kinds of them
 pub length-stack_after : {E : Type 0} (op : Op) (results stack : List E) → length results ≡ length (result_kinds op) →
     IsDeep op (length stack) → length (stack_after op results stack) ≡ depth_after op (length stack)
-length-stack_after (Move motion lower upper) results stack h deep =
-    grind (arith, length-drop, length-take, length-append, length-reverse)
-length-stack_after op results stack h deep = grind (arith, length-append, length-reverse, length-drop)
+length-stack_after op results stack h deep = search (rules, length-drop, length-append, length-reverse)
 
 -- an instruction that can run finds its entries
 pub deep_of : (verified : TypedProgram) (item : Item) (stack : List StackEntry) → can_run verified item stack ≡ true →
@@ -172,12 +137,8 @@ deep_of verified item stack runs = grind (arith, there)
 pub few_results : (op : Op) → length (result_kinds op) ≤ 2
 few_results op = grind arith
 
--- the results are of the kinds of the instruction's
-pub kinds-results : (next : ℕ) (q : Question) → map kind_of (new_entries next (results_of q)) ≡ result_kinds q.op
-kinds-results next q = grind arith
-
 pub length-results : (next : ℕ) (q : Question) → length (new_entries next (results_of q)) ≡ length (result_kinds q.op)
-length-results next q = sym (length-map (new_entries next (results_of q)) kind_of) ∙ ap length (kinds-results next q)
+length-results next q = grind arith
 
 -- ---- how many words there are
 
@@ -191,7 +152,7 @@ total_append (x ∷ xs) ys = omega (arith, total_append xs ys)
 
 total_reverse : (xs : List StackEntry) → total_words (reverse xs) ≡ total_words xs
 total_reverse [] = refl
-total_reverse (x ∷ xs) = grind (arith, total_words, reverse-cons, total_append, (total_reverse xs))
+total_reverse (x ∷ xs) = grind (arith, reverse-cons, total_append, (total_reverse xs))
 
 -- the results are held with what was held below the operands
 held_below : (op : Op) (results stack : List StackEntry) → Agree stack →
@@ -207,7 +168,7 @@ held_below op results stack agree = grind (arith, held_append, total_reverse)
 -- so they are with what counts as held at the instruction
 pub held_after : (rule : Rule) (item : Item) (results : List StackEntry) (s : State) → Agree s.stack →
     held_words (stack_after (op_of item) results s.stack) ≤ total_words results + held_at rule item s
-held_after rule item results s agree = grind (arith, held_below, held_drop)
+held_after rule item results s agree = grind (arith, held_below)
 
 counted : (count : ℕ) (stack : List StackEntry) → count ≤ length stack →
     length (words_of (top_entries count stack)) ≡ count

@@ -1,23 +1,21 @@
 -- Frames at calls: the line that is next, and the frame after it.
-use Rattle.std.proofs.Common.{◌≡◌, ◌∙◌, ◌+◌, ◌<◌, ℕ, Bool, List, [], ◌∷◌, length, drop, Option, get_or, Some}
-use Rattle.std.proofs.Common.{None, ap, sym, subst, arith}
+use Rattle.vcode_reader.specs.Decode.{tail_of, then_body}
+use Rattle.std.proofs.lemmas.Grind.{common_steps}
+use Rattle.std.proofs.Common.{rules, ◌≡◌, ◌∙◌, ◌+◌, ◌<◌, ℕ, Bool, List, [], ◌∷◌, length, drop, Option, get_or, Some}
+use Rattle.std.proofs.Common.{None, ap, sym, arith}
 use Rattle.std.specs.Prelude.{slice_get, if◌then◌else◌, MatchOption}
 use Rattle.std.proofs.lemmas.List.{drop_all, drop_more}
 use Rattle.std.proofs.lemmas.Option.{slice_get_cases, slice_get_within, get_or_from_slice_get}
 use Rattle.vcode_base.specs.declared.instr.Instr.TheVariants.{Return}
-use Rattle.vcode_reader.specs.declared.line.CodeItem.{CodeItem}
 use Rattle.vcode_reader.specs.declared.line.CodeItem.TheVariants as code_item
-use Rattle.vcode_reader.specs.Decode.{then_body}
 use Rattle.vcode_reader.specs.Targets.{target_at, EachTargetIsFirst}
-use Rattle.vcode_reader.specs.Trees.{Item, Body, End, Do, Choice, CodeLine, Function, line_of, instruction_line}
-use Rattle.vcode_reader.specs.Trees.{lines_of}
+use Rattle.vcode_reader.specs.Trees.{Item, Body, End, Do, Choice, CodeLine, Function, lines_of}
 use Rattle.job_steps.specs.declared.frame.Frame.{Frame}
-use Rattle.job_steps.specs.Frames.{IsStop, StopAt, Stands, remaining, lines_at, lines_from, with_return, first_line}
-use Rattle.job_steps.specs.Frames.{next_line, instruction_of}
+use Rattle.job_steps.specs.Frames.{IsStop, StopAt, Stands, remaining, lines_from, with_return, next_line}
+use Rattle.job_steps.specs.Frames.{instruction_of}
 use Rattle.job_steps.specs.States.{Active}
 use Rattle.job_steps.specs.Steps.{next_item}
-use Rattle.job_steps.proofs.Passing.{if_chooses, else_passes, remaining_do, remaining_endif, remaining_nothing}
-use Rattle.job_steps.proofs.Passing.{then_assoc}
+use Rattle.job_steps.proofs.Passing.{if_chooses, else_passes, remaining_do, remaining_nothing, then_assoc}
 
 -- ---- bodies that differ
 
@@ -26,18 +24,6 @@ unfolding then_body
 end_return End ret h = let differ : End ≡ Do Return ret End = h in cc
 end_return (Do i l b) ret h = let differ : End ≡ Do i l (then_body b (Do Return ret End)) = h in cc
 end_return (Choice l x y e b) ret h = let differ : End ≡ Choice l x y e (then_body b (Do Return ret End)) = h in cc
-
--- ---- the line that is next
-
-line_is_do : (rest : Body) (ret : ℕ) (i : Item) (l : ℕ) (b : Body) → Do i l b ≡ then_body rest (Do Return ret End) →
-    first_line rest ret ≡ instruction_line i l
-unfolding then_body
-line_is_do rest ret i l b h = grind arith
-
-line_is_if : (rest : Body) (ret l end : ℕ) (a c b : Body) → Choice l a c end b ≡ then_body rest (Do Return ret End) →
-    first_line rest ret ≡ line_of code_item.If l
-unfolding then_body
-line_is_if rest ret l end a c b h = grind (arith, line_of)
 
 -- ---- the place of a frame
 
@@ -62,7 +48,7 @@ stands_lines functions frame call f found (x ∷ xs) at h = grind (arith, front_
 
 pub stands_at : (functions : List Function) (frame : Frame) (call : Active) → Stands functions frame call →
     StandsAt functions frame call
-stands_at functions frame call s = grind (arith, end_return, remaining_nothing, drop_all, stands_lines)
+stands_at functions frame call s = grind (arith, end_return, remaining_nothing, stands_lines)
 
 -- of this function
 pub record StandsIn (functions : List Function) (frame : Frame) (f : Function) : Type 0 where
@@ -82,17 +68,14 @@ module _ (functions gs : List Function) (frame : Frame) (call : Active) (same : 
 pub line_at : (functions : List Function) (frame : Frame) (call : Active) (g : Function) (x : CodeLine) →
     slice_get functions frame.function ≡ Some g → Stands functions frame call → StopAt (lines_from functions frame) →
     Some x ≡ slice_get (lines_of g) frame.place → x ≡ next_line call
+unfolding then_body
 line_at functions frame call g x found s stop here =
-    grind (arith, at_place, line_is_do, remaining_do, if_chooses, line_is_if)
+    grind (arith, at_place, remaining_do, if_chooses)
 
 -- the same of the line that is found there
 pub line_found : (functions : List Function) (frame : Frame) (call : Active) (s : Stands functions frame call) →
     StopAt (lines_from functions frame) → next_line call ≡ (stands_at functions frame call s).line
-line_found functions frame call s stop = grind (arith, stands_at, line_at)
-
--- what remains of a function from a place on
-abbrev pub remaining_from : Function → ℕ → Body
-remaining_from f p = remaining (drop p (lines_of f))
+line_found functions frame call s stop = grind (arith, line_at)
 
 pub next_item_is : (call : Active) → next_item call ≡ instruction_of (next_line call)
 next_item_is call = grind arith
@@ -104,41 +87,20 @@ module _ (functions : List Function) (frame : Frame) (g : Function) (place : ℕ
   abbrev frame_at : Frame
   frame_at = record { function = frame.function; place = place }
 
-  from_here : (p : ℕ) → drop p (lines_at (slice_get functions frame.function)) ≡ drop p (lines_of g)
-  from_here p = ap (λ o. drop p (lines_at o)) found
-
-  made : (call : Active) → remaining (drop place (lines_of g)) ≡ with_return call → Stands functions frame_at call
-  made call h = record { remains = ap remaining (from_here place) ∙ h }
-
   -- the frame at the place that the code goes on at
   pub stands_settled : remaining (drop place (lines_of g)) ≡ remaining (drop frame.place (lines_of g)) →
       (call : Active) → Stands functions frame call → Stands functions frame_at call
-  stands_settled same call s = made call (same ∙ (ap remaining (sym (from_here frame.place)) ∙ s.remains))
+  stands_settled same call s = grind arith
 
   pub stop_from : StopAt (drop place (lines_of g)) → StopAt (lines_from functions frame_at)
-  stop_from stop = subst StopAt (sym (from_here place)) stop
-
-  rest_of_do : (item : Item) (line ret : ℕ) (rest : Body) (x : CodeLine) (xs : List CodeLine) →
-      drop frame.place (lines_of g) ≡ x ∷ xs → instruction_line item line ≡ x →
-      remaining (drop frame.place (lines_of g)) ≡ then_body (Do item line rest) (Do Return ret End) →
-      remaining xs ≡ then_body rest (Do Return ret End)
-  unfolding then_body
-  rest_of_do item line ret rest x xs at is h = grind (arith, remaining_do)
+  stop_from stop = grind arith
 
   pub stands_next : place ≡ frame.place + 1 → StopAt (lines_from functions frame) →
       (item : Item) (line ret : ℕ) (rest : Body) → Stands functions frame
       (record { rest = Do item line rest; ret = ret }) → Stands functions frame_at (record { rest = rest; ret = ret })
+  unfolding then_body
   stands_next is stop item line ret rest s =
-      let call : Active = record { rest = Do item line rest; ret = ret } in
-      let at = stands_at functions frame call s in
-      let there : slice_get (lines_at (slice_get functions frame.function)) frame.place ≡ Some at.line = ap
-      (λ o. slice_get (lines_at o) frame.place) at.found ∙ at.there in
-      let here : slice_get (lines_of g) frame.place ≡ Some at.line = sym
-      (ap (λ o. slice_get (lines_at o) frame.place) found) ∙ there in
-      let split = at_place (lines_of g) frame.place at.line here in
-      let behind = rest_of_do item line ret rest at.line (drop (frame.place + 1) (lines_of g)) split
-      (line_found functions frame call s stop) (ap remaining (sym (from_here frame.place)) ∙ s.remains) in
-      made (record { rest = rest; ret = ret }) (ap (remaining_from g) is ∙ behind)
+      grind (arith, remaining_nothing, slice_get_cases, drop_more, remaining_do, front_of, if_chooses)
 
   pub stands_chosen : (flag : Bool) → StopAt (lines_from functions frame) →
       ((line end : ℕ) (first second rest : Body) → remaining (drop frame.place (lines_of g)) ≡ Choice line first second
@@ -147,7 +109,7 @@ module _ (functions : List Function) (frame : Frame) (g : Function) (place : ℕ
       Stands functions frame (record { rest = Choice line first second end rest; ret = ret }) →
       Stands functions frame_at (record { rest = then_body (if flag then first else second) rest; ret = ret })
   unfolding then_body
-  stands_chosen flag stop by line end ret first second rest s = grind (arith, from_here, made, then_assoc)
+  stands_chosen flag stop by line end ret first second rest s = grind (arith, then_assoc)
 
 -- ---- the parts of an IF
 
@@ -158,19 +120,10 @@ pub record Parts (whole : List CodeLine) (p : ℕ) (first second rest : Body) : 
   pub target : EachTargetIsFirst → target_at whole p ≡ Some next
   pub other : remaining (drop next whole) ≡ then_body second rest
 
-parts_at : (f : Function) (p line end : ℕ) (first second rest : Body) (i : CodeItem Item) (l : ℕ) (xs : List CodeLine) →
-    drop p (lines_of f) ≡ line_of i l ∷ xs → IsStop i → remaining (drop p (lines_of f)) ≡ Choice line first second end
-    rest → Parts (lines_of f) p first second rest
-parts_at f p line end first second rest i l xs at stop h = grind (arith, remaining_do, if_chooses)
-
 pub parts : (f : Function) (p line end : ℕ) (first second rest : Body) → p < length (lines_of f) →
     remaining (drop p (lines_of f)) ≡ Choice line first second end rest → StopAt (drop p (lines_of f)) →
     Parts (lines_of f) p first second rest
-parts f p line end first second rest within h stop =
-    let nothing : CodeLine = instruction_line Return 0 in
-    let x = get_or (lines_of f) p nothing in
-    let at : drop p (lines_of f) ≡ x ∷ drop (p + 1) (lines_of f) = drop_more (lines_of f) p nothing within in
-    parts_at f p line end first second rest x.item x.number (drop (p + 1) (lines_of f)) at (subst StopAt at stop) h
+parts f p line end first second rest within h stop = grind (arith, common_steps, remaining_do, if_chooses)
 
 -- ---- the line at a place
 
@@ -178,33 +131,26 @@ abbrev pub GoesTo : Function → ℕ → ℕ → Type 0
 GoesTo f p next =
     (p < next) × (p < length (lines_of f)) × (remaining (drop next (lines_of f)) ≡ remaining (drop p (lines_of f)))
 
-past_end : {X : Type 0} (xs : List X) (p : ℕ) → slice_get xs p ≡ None → drop p xs ≡ []
-past_end xs p e = grind (arith, slice_get_cases, drop_all)
-
 pub stop_past_end : (f : Function) (p : ℕ) → None ≡ slice_get (lines_of f) p → StopAt (drop p (lines_of f))
-stop_past_end f p e = subst StopAt (sym (past_end (lines_of f) p (sym e))) tt
+stop_past_end f p e = grind (arith, slice_get_cases, drop_all)
 
 module _ (f : Function) (p : ℕ) (x : CodeLine) (here : Some x ≡ slice_get (lines_of f) p) where
   pub within_lines : p < length (lines_of f)
   within_lines = slice_get_within (lines_of f) p x (sym here)
 
-  here_is : drop p (lines_of f) ≡ x ∷ drop (p + 1) (lines_of f)
-  here_is = at_place (lines_of f) p x (sym here)
-
   pub stop_here : IsStop x.item → StopAt (drop p (lines_of f))
-  stop_here h = subst StopAt (sym here_is) h
+  stop_here h = grind (arith, at_place)
 
   pub else_here : EachTargetIsFirst → x.item ≡ code_item.Else → (r : Option ℕ) → r ≡ target_at (lines_of f) p →
       MatchOption r (StopAt (drop p (lines_of f))) (GoesTo f p)
-  else_here first h r found =
-      let at : drop p (lines_of f) ≡ line_of code_item.Else x.number ∷ drop (p + 1) (lines_of f) = here_is ∙ ap
-      (λ i. line_of i x.number ∷ drop (p + 1) (lines_of f)) h in
-      let passes = else_passes f p x.number (drop (p + 1) (lines_of f)) at in
-      subst (λ o. MatchOption o (StopAt (drop p (lines_of f))) (GoesTo f p)) (sym (found ∙ passes.target first))
-      (passes.later, within_lines, passes.same)
+  else_here first h r found = search (rules, at_place, else_passes, slice_get_within)
 
   pub endif_here : x.item ≡ code_item.Endif → GoesTo f p (p + 1)
-  endif_here h = grind (arith, line_of, here_is, within_lines, remaining_endif)
+  unfolding tail_of then_body
+  endif_here h = grind (arith, at_place, within_lines)
 
 -- what `passed` needs
 pub ruleset of_passed = (stop_here, endif_here, stop_past_end, within_lines)
+
+-- and what `function` needs
+pub ruleset of_function = (has_function, stands_in)

@@ -1,15 +1,13 @@
 -- Lists of jobs in which one job has another standing.
 use Rattle.std.proofs.Common.{◌≡◌, ℕ, zero, suc, ◌+◌, ◌<◌, ◌≤◌, Bool, true, false, ◌&&◌, List, [], ◌∷◌, length, map}
-use Rattle.std.proofs.Common.{option_map, set, slice_get, All, Option, Some, None, refl, sym, ◌∙◌, ap, subst, arith}
-use Rattle.std.proofs.Common.{length-set}
-use Rattle.std.proofs.lemmas.Bool.{and_parts, leb-true, leb-false, false≢true}
-use Rattle.std.proofs.lemmas.List.Elements.{All-nil, All-cons, All-head, All-tail}
+use Rattle.std.proofs.Common.{option_map, set, slice_get, All, Option, Some, None, refl, sym, ◌∙◌, arith, length-set}
+use Rattle.std.proofs.lemmas.List.Elements.{All-nil, All-head, All-tail}
 use Rattle.std.proofs.lemmas.Option.{none-some, same_Some, slice_get-map, slice_get_within, get_or_from_slice_get}
 use Rattle.vcode_base.specs.declared.limits.TheConstants.{MOST_PASSES}
 use Rattle.job_steps.specs.EventLaws.{HasRoom}
 use Rattle.job_steps.specs.Standings.{Standing, Waiting, Queue, of_job, with_standing, AreFew, first_standings}
 use Rattle.job_steps.specs.Standings.{is_waiting, sum_over, granted_words, has_room, is_passed_enough, admission_from}
-use Rattle.job_steps.specs.Standings.{admission, passed_once_more, passes_before}
+use Rattle.job_steps.specs.Standings.{admission, passes_before}
 use Rattle.job_steps.specs.States.{Task}
 
 -- ---- places
@@ -25,13 +23,13 @@ get-set_other (z ∷ xs) i j y ne = grind (arith, (get-set_other xs))
 
 pub set_back : {X : Type 0} (xs : List X) (i : ℕ) (x y : X) → slice_get xs i ≡ Some x → set (set xs i y) i x ≡ xs
 set_back [] i x y e = refl
-set_back (z ∷ xs) i x y e = grind (arith, same_Some, (set_back xs))
+set_back (z ∷ xs) i x y e = grind (arith, (set_back xs))
 
 -- ---- jobs
 
 pub of_with : (job : ℕ) (standings : List Standing) (old new : Standing) → of_job job standings ≡ Some old →
     of_job job (with_standing job new standings) ≡ Some new
-of_with job standings old new e = grind (arith, none-some, get-set_same)
+of_with job standings old new e = grind (arith, get-set_same)
 
 pub of_with_other : (job other : ℕ) (standings : List Standing) (new : Standing) → (job ≡ other → ⊥) →
     of_job other (with_standing job new standings) ≡ of_job other standings
@@ -44,7 +42,7 @@ with_length job standings new = grind (arith, length-set)
 -- what holds of each task holds of that of a number
 pub all_of : (P : Task → Type 0) (tasks : List Task) → All P tasks → (job : ℕ) (task : Task) →
     of_job job tasks ≡ Some task → P task
-all_of P tasks each job task e = grind (arith, none-some, get_or_from_slice_get, slice_get_within)
+all_of P tasks each job task e = grind (arith, get_or_from_slice_get, slice_get_within)
 
 -- lists of one length have something at the same places
 pub beside_at : {X Y : Type 0} (xs : List X) (ys : List Y) → length ys ≡ length xs → (i : ℕ) (x : X) →
@@ -57,11 +55,7 @@ beside_at (z ∷ xs) (y ∷ ys) same (suc i) x e = beside_at xs ys (omega (arith
 pub beside : (tasks : List Task) (standings : List Standing) → length standings ≡ length tasks →
     (job : ℕ) (task : Task) → of_job job tasks ≡ Some task → (standing : Standing) ×
     (of_job job standings ≡ Some standing)
-beside tasks standings same job task e = grind (arith, none-some, beside_at)
-
-pub first_waits : (tasks : List Task) (job : ℕ) (standing : Standing) →
-    of_job job (first_standings tasks) ≡ Some standing → standing ≡ Waiting
-first_waits tasks job standing e = grind (arith, none-some, slice_get-map)
+beside tasks standings same job task e = grind (arith, beside_at)
 
 -- the standing that was changed to this one
 pub of_mapped : (change : Standing → Standing) (standings : List Standing) (job : ℕ) (new : Standing) →
@@ -81,13 +75,13 @@ sum_set : (number : Task → Standing → ℕ) (tasks : List Task) (standings : 
     (old new : Standing) → slice_get tasks i ≡ Some task → slice_get standings i ≡ Some old →
     sum_over number tasks (set standings i new) + number task old ≡ sum_over number tasks standings + number task new
 sum_set number [] standings i task old new t e = absurd (none-some task t)
-sum_set number (k ∷ tasks) standings i task old new t e = grind (arith, none-some, (sum_set number tasks))
+sum_set number (k ∷ tasks) standings i task old new t e = grind (arith, (sum_set number tasks))
 
 pub sum_with : (number : Task → Standing → ℕ) (tasks : List Task) (standings : List Standing) (job : ℕ) (task : Task)
     (old new : Standing) → of_job job tasks ≡ Some task → of_job job standings ≡ Some old →
     sum_over number tasks (with_standing job new standings) + number task old ≡ sum_over number tasks standings + number
     task new
-sum_with number tasks standings job task old new t e = grind (arith, none-some, sum_set)
+sum_with number tasks standings job task old new t e = grind (arith, sum_set)
 
 pub sum_mapped : (number : Task → Standing → ℕ) (change : Standing → Standing) →
     ((task : Task) (s : Standing) → number task (change s) ≡ number task s) →
@@ -101,13 +95,6 @@ none_granted [] = refl
 none_granted (t ∷ tasks) = omega (arith, none_granted tasks)
 
 -- ---- admission
-
-waiting_is : (s : Standing) → is_waiting s ≡ true → s ≡ Waiting
-waiting_is s e = grind (arith, false≢true)
-
-few_more : (s : Standing) (count : ℕ) → is_passed_enough s count ≡ false → count ≤ MOST_PASSES →
-    passed_once_more s count ≤ MOST_PASSES
-few_more s count e few = grind (arith, leb-false)
 
 -- each job that waits before this place doesn't fit, and was passed by fewer times than the most
 abbrev pub PassableBefore : (Task → Bool) → List Task → List Standing → List ℕ → ℕ → Type 0
@@ -131,18 +118,16 @@ module _ (first : ℕ) (fits : Task → Bool) (t : Task) (tasks : List Task) (s 
     (count : ℕ) (passes : List ℕ) (job : ℕ) where
   next_here : (is_waiting s && fits t) ≡ true → first ≡ job →
       Found first fits (t ∷ tasks) (s ∷ standings) (count ∷ passes) job
-  next_here b e =
-      let parts = and_parts (is_waiting s) (fits t) b in
-      record {
-        place = zero;
-        task = t;
-        job_is = omega (arith, e);
-        task_is = refl;
-        waits = ap (λ (k : Standing). Some k) (waiting_is s parts.0);
-        fits_is = parts.1;
-        few = λ all. all;
-        before = λ i task less t w. absurd (omega (arith, less));
-      }
+  next_here b e = record {
+    place = zero;
+    task = t;
+    job_is = grind arith;
+    task_is = refl;
+    waits = grind arith;
+    fits_is = grind arith;
+    few = λ all. all;
+    before = λ i task less t w. absurd (omega (arith, less));
+  }
 
   -- one job more, which may be passed by
   passable_more : (place : ℕ) → (is_waiting s && fits t) ≡ false → is_passed_enough s count ≡ false →
@@ -161,58 +146,43 @@ module _ (first : ℕ) (fits : Task → Bool) (t : Task) (tasks : List Task) (s 
     task_is = n.task_is;
     waits = n.waits;
     fits_is = n.fits_is;
-    few = λ all. All-cons (λ (k : ℕ). k ≤ MOST_PASSES) (passed_once_more s count)
-        (passes_before n.place standings passes)
-        (few_more s count c (All-head (λ (k : ℕ). k ≤ MOST_PASSES) count passes all))
-        (n.few (All-tail (λ (k : ℕ). k ≤ MOST_PASSES) count passes all));
+    few = λ all. let later = n.few (All-tail (λ (k : ℕ). k ≤ MOST_PASSES) count passes all) in grind (arith, All-head);
     before = passable_more n.place b c n.before;
   }
 
 is_next : (first : ℕ) (fits : Task → Bool) (tasks : List Task) (standings : List Standing) (passes : List ℕ) (job : ℕ) →
     admission_from first fits tasks standings passes ≡ Some job → Found first fits tasks standings passes job
 is_next first fits (t ∷ tasks) (s ∷ standings) (count ∷ passes) job e =
-    grind (arith, next_here, same_Some, none-some, next_behind, (is_next (suc first) fits tasks standings passes job))
+    grind (arith, next_here, next_behind, (is_next (suc first) fits tasks standings passes job))
 is_next first fits tasks standings passes job e = absurd (none-some job e)
 
-pub admitted_next : (region : ℕ) (tasks : List Task) (queue : Queue) (job : ℕ) →
-    admission region tasks queue ≡ Some job → Found 1 (has_room region (granted_words tasks queue.standings)) tasks
-    queue.standings queue.passes job
-unfolding admission
-admitted_next region tasks queue job e = grind (arith, is_next, has_room, region, tasks, job)
+module _ (region : ℕ) (tasks : List Task) (queue : Queue) where
+  pub admitted_next : (job : ℕ) → admission region tasks queue ≡ Some job →
+      Found 1 (has_room region (granted_words tasks queue.standings)) tasks queue.standings queue.passes job
+  unfolding admission
+  admitted_next job e = grind (arith, is_next)
 
-pub admitted_has_room : (region : ℕ) (tasks : List Task) (queue : Queue) (job : ℕ) →
-    admission region tasks queue ≡ Some job → HasRoom region tasks queue.standings job
-admitted_has_room region tasks queue job e =
-    let n = admitted_next region tasks queue job e in
-    let job_is : suc n.place ≡ job = omega (arith, n.job_is) in
-    let room = leb-true (granted_words tasks queue.standings + n.task.limits.words) region n.fits_is in
-    subst (HasRoom region tasks queue.standings) job_is
-    (record { task = n.task; task_is = n.task_is; waits = n.waits; room = room })
+  pub admitted_has_room : (job : ℕ) → admission region tasks queue ≡ Some job → HasRoom region tasks queue.standings job
+  admitted_has_room job e =
+      let n = admitted_next job e in
+      record { task = n.task; task_is = grind arith; waits = grind arith; room = grind arith }
 
--- a job that is admitted has room
-pub admitted_room : (region : ℕ) (tasks : List Task) (queue : Queue) (job : ℕ) →
-    admission region tasks queue ≡ Some job → (task : Task) → of_job job tasks ≡ Some task →
-    granted_words tasks queue.standings + task.limits.words ≤ region
-admitted_room region tasks queue job e task t =
-    let h = admitted_has_room region tasks queue job e in
-    rw (same_Some h.task task (sym h.task_is ∙ t)) at h.room
+  -- a job that is admitted has room
+  pub admitted_room : (job : ℕ) → admission region tasks queue ≡ Some job → (task : Task) →
+      of_job job tasks ≡ Some task → granted_words tasks queue.standings + task.limits.words ≤ region
+  admitted_room job e task t = let h = admitted_has_room job e in grind arith
 
--- the passes stay few
-pub admitted_few : (region : ℕ) (tasks : List Task) (queue : Queue) (place : ℕ) →
-    admission region tasks queue ≡ Some (suc place) → AreFew queue.passes →
-    AreFew (passes_before place queue.standings queue.passes)
-admitted_few region tasks queue place e all =
-    let n = admitted_next region tasks queue (suc place) e in
-    let place_is : n.place ≡ place = omega (arith, n.job_is) in rw place_is at (n.few all)
+  -- the passes stay few
+  pub admitted_few : (place : ℕ) → admission region tasks queue ≡ Some (suc place) → AreFew queue.passes →
+      AreFew (passes_before place queue.standings queue.passes)
+  admitted_few place e all = let n = admitted_next (suc place) e in grind arith
 
--- the job that is found is admitted
-pub admits : (region : ℕ) (tasks : List Task) (queue : Queue) (o : Option ℕ) →
-    admission_from 1 (has_room region (granted_words tasks queue.standings)) tasks queue.standings queue.passes ≡ o →
-    admission region tasks queue ≡ o
-unfolding admission
-admits region tasks queue o e = e
-
--- ---- passes
+  -- the job that is found is admitted
+  pub admits : (o : Option ℕ) → admission_from 1 (has_room region (granted_words tasks queue.standings)) tasks
+      queue.standings queue.passes ≡ o → admission region tasks queue ≡ o
+  unfolding admission
+  admits o e = e
+  -- ---- passes
 
 pub passes_length : (place : ℕ) (standings : List Standing) (passes : List ℕ) →
     length (passes_before place standings passes) ≡ length passes
@@ -220,12 +190,12 @@ passes_length zero standings passes = refl
 passes_length (suc place) standings passes = grind (arith, (passes_length place))
 
 -- a job that doesn't wait isn't passed by
-pub not_passed : (place : ℕ) (standings : List Standing) (passes : List ℕ) (i : ℕ) (s : Standing) →
-    slice_get standings i ≡ Some s → (s ≡ Waiting → ⊥) → slice_get (passes_before place standings passes) i ≡ slice_get
-    passes i
-not_passed zero standings passes i s e moved = refl
-not_passed (suc place) standings passes i s e moved = grind (arith, same_Some, (not_passed place))
+pub not_passed : (place : ℕ) (standings : List Standing) (passes : List ℕ) (i : ℕ) →
+    (slice_get standings i ≡ Some Waiting → ⊥) →
+    slice_get (passes_before place standings passes) i ≡ slice_get passes i
+not_passed zero standings passes i moved = refl
+not_passed (suc place) standings passes i moved = grind (arith, (not_passed place))
 
 pub none_passed : (tasks : List Task) → AreFew (map (λ (task : Task). 0) tasks)
 none_passed [] = All-nil (λ (k : ℕ). k ≤ MOST_PASSES)
-none_passed (t ∷ tasks) = grind (arith, All-cons, (none_passed tasks))
+none_passed (t ∷ tasks) = grind (arith, (none_passed tasks))

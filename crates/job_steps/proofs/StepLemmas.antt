@@ -1,6 +1,5 @@
 -- What a step may rest on if a track is at a state of a verified job.
-use Rattle.std.proofs.Common.{rules, ◌≡◌, ◌∙◌, ◌+◌, ◌<◌, ◌≤◌, ℕ, true, List, [], ◌∷◌, length, None, refl, ap, sym}
-use Rattle.std.proofs.Common.{arith}
+use Rattle.std.proofs.Common.{rules, ◌≡◌, ◌<◌, ◌≤◌, ℕ, true, List, [], ◌∷◌, length, None, refl, arith}
 use Rattle.std.specs.Prelude.{All}
 use Rattle.std.proofs.lemmas.List.Elements.{All-nil, All-cons, All-map, All-take, All-weaker}
 use Rattle.vcode_base.specs.declared.instr.Instr.TheVariants.{Const}
@@ -12,19 +11,18 @@ use Rattle.signatures.specs.Signatures.{Signature}
 use Rattle.verifier.specs.Kinded.{scope_of}
 use Rattle.job_steps.specs.Buffers.{HaveAtMost}
 use Rattle.job_steps.specs.Events.{early_end_in}
-use Rattle.job_steps.specs.Frames.{StandAll}
-use Rattle.job_steps.specs.Motions.{top_entries, operand_count, depth_after}
+use Rattle.job_steps.specs.Motions.{top_entries, operand_count}
 use Rattle.job_steps.specs.Questions.{need_words}
 use Rattle.job_steps.specs.Reached.{IsVerifiedTask, AreTyped, IsReached, Reaches, ValuesHaveKinds}
-use Rattle.job_steps.specs.StepLaws.{CanBegin, CanAdvance, StepsCanBegin, StepsCanAdvance}
+use Rattle.job_steps.specs.StepLaws.{CanBegin, CanAdvance, StepsCanAdvance}
 use Rattle.job_steps.specs.States.{Task, StackEntry, Active, State, stack_kinds, held_words, words_of}
-use Rattle.job_steps.specs.Steps.{next_item, sources_of, question_of, can_run, early_ending, held_at, words_at}
-use Rattle.job_steps.specs.Tracks.{TrackState, IsAt, IsDeep, functions_of}
-use Rattle.job_steps.proofs.Bounds.{Fits, fits, neither}
-use Rattle.job_steps.proofs.Following.{can_follow, same_length}
+use Rattle.job_steps.specs.Steps.{next_item, sources_of, question_of, can_run}
+use Rattle.job_steps.specs.Tracks.{TrackState, IsAt}
+use Rattle.job_steps.proofs.Bounds.{fits}
+use Rattle.job_steps.proofs.Following.{same_length}
 use Rattle.job_steps.proofs.Halves.{below_budget, spent_none}
 use Rattle.job_steps.proofs.Held.{Has, has_itself, Agree, held_among}
-use Rattle.job_steps.proofs.StackLemmas.{All-reverse, deep_of}
+use Rattle.job_steps.proofs.StackLemmas.{All-reverse}
 use Rattle.job_steps.proofs.Typed.{runs_at}
 
 -- ---- how long the operands are
@@ -63,52 +61,16 @@ module _ {C : Type 0} (signatures : List Signature) (task : Task) (v : IsVerifie
   runs : can_run task.verified (next_item call).item s.stack ≡ true
   runs = runs_at signatures task.verified v task.verified.results call.ret outer s.stack call.rest typed
 
-  stands : StandAll (functions_of task.verified) t.frames (call ∷ outer)
-  stands = rw is at at.frames
-
-  deep : IsDeep (op_of (next_item call).item) (length t.cells)
-  deep = rw at.cells (deep_of task.verified (next_item call).item s.stack runs)
-
   begins : HaveKinds (source_kinds (op_of (next_item call).item)) (sources_of (next_item call).item s.stack) →
       CanBegin task n s t
-  begins kinds = record {
-    active = (call, outer, stands);
-    call = call;
-    outer = outer;
-    calls = is;
-    stands = stands;
-    executed = at.executed ∙ r.count;
-    within = r.budget;
-    kinds = kinds;
-    depth = rw at.cells r.cells;
-    words = r.words;
-    deep = deep;
-  }
+  begins kinds = search (rules, runs)
 
   advances : n < task.limits.budget → early_end_in task s s.calls ≡ None →
       HaveKinds (source_kinds (op_of (next_item call).item)) (sources_of (next_item call).item s.stack) →
       CanAdvance task s t (next_item call).item
-  advances unspent early kinds =
-      let item = (next_item call).item in
-      let late : early_ending task (next_item call) s ≡ None = ap (early_end_in task s) (sym is) ∙ early in
-      let none = neither (next_item call).number _ _ late in
-      let fit : Fits task.limits (op_of item) (words_at task.rule item s) (depth_after (op_of item) (length s.stack))
-      (length s.calls) = fits task.limits _ _ _ _ none.1 in
-      let same = same_length (functions_of task.verified) t.frames s.calls at.frames in
-      let room : held_at task.rule item s + need_words (question_of item s.stack) ≤ task.limits.words = fit.words_fit in
-      record {
-        unspent = rw (at.limits, at.executed, r.count) unspent;
-        deep = deep;
-        cells = rw (at.limits, at.cells) fit.cells_fit;
-        follows = can_follow task.verified t.frames call outer s.stack t.limits.calls stands typed.5 runs
-            (λ called. rw at.limits (omega (arith, same, fit.calls_fit called)));
-        room = fit.words_fit;
-        shaped = none.0;
-        answers = λ words more. record { kinds = kinds; shaped = none.0; room = omega arith };
-        lengths = λ words more. sources_held item s.stack words r.alike (omega (arith, r.words)) (omega arith);
-      }
+  advances unspent early kinds = grind (arith, fits, same_length, runs, sources_held)
 
-begins_at : {C : Type 0} (signatures : List Signature) (task : Task) → IsVerifiedTask signatures task → (n : ℕ)
+pub begins_at : {C : Type 0} (signatures : List Signature) (task : Task) → IsVerifiedTask signatures task → (n : ℕ)
     (s : State) (t : TrackState C) → IsAt task t s → IsReached signatures task n s → ((call : Active)
     (outer : List Active) → s.calls ≡ call ∷ outer → HaveKinds (source_kinds (op_of (next_item call).item))
     (sources_of (next_item call).item s.stack)) → (calls : List Active) → s.calls ≡ calls → 1 ≤ length calls →
@@ -116,9 +78,6 @@ begins_at : {C : Type 0} (signatures : List Signature) (task : Task) → IsVerif
 begins_at signatures task v n s t at r kinds [] is some = absurd (omega arith)
 begins_at signatures task v n s t at r kinds (call ∷ outer) is some =
     begins signatures task v n s t at r call outer is (kinds call outer is)
-
-pub steps_can_begin : Reaches → ValuesHaveKinds → (C : Type 0) → StepsCanBegin C
-steps_can_begin reaches have_kinds C signatures task v n s t e at = grind (arith, begins_at)
 
 pub steps_can_advance : Reaches → ValuesHaveKinds → (C : Type 0) → StepsCanAdvance C
 steps_can_advance reaches have_kinds C signatures task v n s t e at early call outer is =

@@ -1,10 +1,10 @@
 -- Lists that are kept backwards, and a list whose first element moves after the others.
+use Rattle.std.proofs.lemmas.Grind.{common_steps}
 use Rattle.std.proofs.Common.{◌≡◌, ℕ, ◌+◌, ◌-◌, ◌<◌, ◌≤◌, List, [], ◌∷◌, ◌++◌, length, take, drop, refl, sym, ◌∙◌, ap}
 use Rattle.std.proofs.Common.{suc, arith, append_assoc, drop-drop, length-drop, length-take-le, slice_set}
 use Rattle.std.proofs.Common.{slice_index_or}
 use Rattle.std.specs.Prelude.{reverse}
 use Rattle.std.proofs.lemmas.List.{reverse-append, reverse-reverse, length-reverse, take-append-drop, take_at, drop_at}
-use lib.Seq.{set_split}
 use Rattle.vcode_base.specs.declared.op.StackMove.{StackMove}
 use Rattle.vcode_base.specs.declared.op.StackMove.TheVariants.{Copy, Pop, MoveToTop}
 use Rattle.vcode_base.specs.Motions.{entries_after_move}
@@ -21,24 +21,8 @@ reverse_front xs n h =
     let long : length (reverse (drop k xs)) ≡ n = omega (arith, length-reverse (drop k xs), length-drop k xs) in
     sym (ap (drop n) whole ∙ drop_at (reverse (drop k xs)) (reverse (take k xs)) n long)
 
-none_left : {T : Type 0} (xs : List T) → length xs ≡ 0 → xs ≡ []
-none_left [] h = refl
-none_left (x ∷ xs) h = absurd (omega arith)
-
--- with another element in the place of the last
-reverse_set : {T : Type 0} (xs : List T) (x : T) → 0 < length xs →
-    reverse (slice_set xs (length xs - 1) x) ≡ x ∷ drop 1 (reverse xs)
-reverse_set xs x h =
-    let k = length xs - 1 in
-    let none : drop (suc k) xs ≡ [] = none_left (drop (suc k) xs) (omega (arith, length-drop (suc k) xs)) in
-    ap reverse (set_split xs k x (omega arith) ∙ ap (λ ys. take k xs ++ x ∷ ys) none) ∙
-    (reverse-append (take k xs) (x ∷ []) ∙ ap (λ ys. x ∷ ys) (reverse_front xs 1 (omega arith)))
-
 -- what a motion takes, in three parts from the bottom up
 module _ {E : Type 0} (base low up : List E) where
-  stack : List E
-  stack = reverse (base ++ (low ++ up))
-
   under : drop (length up) (reverse (base ++ (low ++ up))) ≡ reverse low ++ reverse base
   under = grind (arith, reverse-append, append_assoc, drop_at, length-reverse)
 
@@ -70,14 +54,11 @@ module _ {E : Type 0} (xs : List E) (lower upper : ℕ) (there : lower + upper �
 
   moved_by : (motion : StackMove) → reverse (take below xs ++ entries_after_move motion low up) ≡ stack_after_move
       motion lower upper (reverse xs)
-  moved_by motion = grind (arith, moved, below, low, up, length-take-le, length-drop, in_three)
+  moved_by motion = grind (arith, moved, length-take-le, length-drop, in_three)
 
   -- the lower ones once more after all
   pub copied : reverse (xs ++ low) ≡ stack_after_move Copy lower upper (reverse xs)
-  copied =
-      ap reverse (ap (λ ys. ys ++ low) in_three ∙
-      (append_assoc (take below xs) (low ++ up) low ∙ ap (λ ys. take below xs ++ ys) (append_assoc low up low))) ∙
-      moved_by Copy
+  copied = grind (arith, common_steps, in_three)
 
   -- the lower ones after the others
   pub turned : reverse (take below xs ++ (up ++ low)) ≡ stack_after_move MoveToTop lower upper (reverse xs)
@@ -95,31 +76,10 @@ module _ {E : Type 0} (xs : List E) (below lower : ℕ) (there : below + lower �
   abbrev front : List E
   front = take lower above
 
-  long_front : length front ≡ lower
-  long_front = length-take-le lower above (omega (arith, length-drop below xs, there))
-
-  long_below : length (take below xs) ≡ below
-  long_below = length-take-le below xs (omega (arith, there))
-
-  copied_after : xs ++ front ≡ take below xs ++ (above ++ front)
-  copied_after = grind (arith, front, take-append-drop, below, append_assoc, above)
-
-  parts_above : above ++ front ≡ front ++ (drop lower above ++ front)
-  parts_above =
-      ap (λ ys. ys ++ front) (sym (take-append-drop lower above)) ∙ append_assoc front (drop lower above) front
-
-  same_below : take below (xs ++ front) ≡ take below xs
-  same_below = grind (arith, copied_after, take_at, long_below)
-
-  left_above : drop (below + lower) (xs ++ front) ≡ drop lower above ++ front
-  left_above =
-      sym (drop-drop lower below (xs ++ front)) ∙
-      (ap (drop lower) (ap (drop below) copied_after ∙ drop_at (take below xs) (above ++ front) below long_below) ∙
-      (ap (drop lower) parts_above ∙ drop_at front (drop lower above ++ front) lower long_front))
-
   pub turned_by_copy : take below (xs ++ front) ++ drop (below + lower) (xs ++ front) ≡ take below xs ++
       (drop lower above ++ front)
-  turned_by_copy = (λ k. same_below k ++ left_above k)
+  turned_by_copy =
+      grind (arith, common_steps)
 
 -- ---- what a pile is then
 
@@ -127,42 +87,28 @@ abbrev pile : {E : Type 0} → List E → ℕ → PileState E
 pile xs room = record { entries = reverse xs; room = room }
 
 module _ {E : Type 0} (old : PileState E) (xs ys : List E) (room : ℕ) (is : pile xs room ≡ old) where
-  same_entries : reverse xs ≡ old.entries
-  same_entries = ap (λ (p : PileState E). p.entries) is
-
-  pub long_entries : length xs ≡ length old.entries
-  long_entries = omega (arith, length-reverse xs, ap length same_entries)
-
-  with_entries : (F : List E → List E) → reverse ys ≡ F (reverse xs) →
-      pile ys room ≡ record old { entries = F old.entries }
-  with_entries F h = grind arith
-
   pub lowered : (count len : ℕ) → count ≤ length old.entries → len ≡ length xs → ys ≡ take (len - count) xs →
       pile ys room ≡ record old { entries = drop count old.entries }
-  lowered count len there long h = grind (arith, with_entries, reverse_front, long_entries)
-
-  pub topped : (x : E) (len : ℕ) → 0 < length old.entries → len ≡ length xs → ys ≡ slice_set xs (len - 1) x →
-      pile ys room ≡ record old { entries = x ∷ drop 1 old.entries }
-  topped x len there long h = grind (arith, with_entries, reverse_set, long_entries)
+  lowered count len there long h = grind (arith, reverse_front, length-reverse)
 
   module _ (lower upper len : ℕ) (there : lower + upper ≤ length old.entries) (long : len ≡ length xs) where
     abbrev place : ℕ
     place = len - (lower + upper)
 
     enough : lower + upper ≤ length xs
-    enough = omega (arith, long_entries)
+    enough = grind (arith, length-reverse)
 
     shifted_by : (motion : StackMove) → reverse ys ≡ stack_after_move motion lower upper (reverse xs) →
         pile ys room ≡ record old { entries = stack_after_move motion lower upper old.entries }
-    shifted_by motion = with_entries (stack_after_move motion lower upper)
+    shifted_by motion = grind arith
 
     pub shifted_copy : ys ≡ xs ++ take lower (drop place xs) → pile ys room ≡ record old
         { entries = stack_after_move Copy lower upper old.entries }
-    shifted_copy h = grind (arith, shifted_by, copied, enough)
+    shifted_copy h = grind (arith, copied, enough)
 
     pub shifted_top : ys ≡ take place xs ++ (drop lower (drop place xs) ++ take lower (drop place xs)) →
         pile ys room ≡ record old { entries = stack_after_move MoveToTop lower upper old.entries }
-    shifted_top h = grind (arith, shifted_by, turned, enough)
+    shifted_top h = grind (arith, turned, enough)
 
     pub shifted_pop : ys ≡ take place xs ++ drop (place + lower) xs →
         pile ys room ≡ record old { entries = stack_after_move Pop lower upper old.entries }
@@ -199,10 +145,7 @@ moved_one xs ys n z h is read = grind (arith, next, set_next)
 -- and then the first at the end
 pub moved_all : {T : Type 0} (xs ys : List T) (n last : ℕ) (first z : T) → 0 < length xs → last ≡ length xs - 1 →
     n ≡ last → ys ≡ shifted n xs → first ≡ slice_index_or xs 0 z → slice_set ys last first ≡ drop 1 xs ++ take 1 xs
-moved_all [] ys n last first z h last_is n_is is read = absurd (omega arith)
-moved_all (x ∷ rest) ys n last first z h last_is n_is is read =
-    let at : last ≡ length rest = omega arith in
-    ap (λ l. slice_set l last first) (is ∙ ap (λ m. take m rest ++ drop m (x ∷ rest)) (n_is ∙ at)) ∙
-    (ap (λ m. slice_set (take (length rest) rest ++ drop (length rest) (x ∷ rest)) m first) at ∙
-    (ap (λ f. slice_set (take (length rest) rest ++ drop (length rest) (x ∷ rest)) (length rest) f) read ∙ set_last x x
-    rest))
+moved_all xs ys n last first z h last_is n_is is read = grind (arith, common_steps, set_last)
+
+-- what `as_slice` needs
+pub ruleset of_slice = (reverse-reverse)

@@ -1,10 +1,10 @@
 -- The calls of a verified job are typed over its stack, in each state that it reaches.
-use Rattle.std.proofs.Common.{◌≡◌, ℕ, ◌+◌, ◌≤◌, Bool, true, cond, List, [], ◌∷◌, ◌++◌, length, get_or, drop}
-use Rattle.std.proofs.Common.{Option, Some, None, refl, sym, ◌∙◌, ap, subst, arith, zero, suc}
+use Rattle.std.proofs.lemmas.Grind.{common_steps}
+use Rattle.std.proofs.Common.{◌≡◌, ℕ, ◌+◌, ◌≤◌, Bool, true, List, [], ◌∷◌, ◌++◌, length, drop, Option, Some, None, refl}
+use Rattle.std.proofs.Common.{sym, ◌∙◌, ap, subst, arith, zero, suc, get_or}
 use Rattle.std.specs.Prelude.{Contains, IsTrue, position, slice_get, nat_le, reverse, option_map}
 use Rattle.std.specs.Str.{bytes_eq}
-use Rattle.std.proofs.lemmas.Bool.Decides.{nat_tests}
-use Rattle.std.proofs.lemmas.List.{append_assoc, append-nil}
+use Rattle.std.proofs.lemmas.List.{append_assoc}
 use Rattle.std.proofs.lemmas.List.Elements.{All-contains, Contains-get_or}
 use Rattle.std.proofs.lemmas.List.Quantifiers.{position-Some}
 use Rattle.std.proofs.lemmas.Option.{slice_get-get_or, slice_get-map}
@@ -12,27 +12,25 @@ use Rattle.std.proofs.lemmas.Slice.Eq.{bytes_eq-Decides}
 use Rattle.vcode_base.specs.declared.instr.Instr.TheVariants.{If, Move, Call, Return}
 use Rattle.vcode_base.specs.declared.kind.Kind.{Kind}
 use Rattle.vcode_base.specs.declared.kind.Kind.TheVariants as kind
-use Rattle.vcode_base.specs.declared.op.StackMove.{StackMove}
 use Rattle.vcode_base.specs.Instructions.{op_of}
 use Rattle.vcode_base.specs.Kinds.{operand_kinds, result_kinds}
-use Rattle.vcode_base.specs.Motions.{entries_after_move}
 use Rattle.vcode_base.specs.Names.{main_name}
 use Rattle.vcode_reader.specs.Decode.{then_body}
 use Rattle.vcode_reader.specs.Trees.{Item, Body, End, Do, Choice, Function, IsBodyInstruction, IsProperBody}
 use Rattle.signatures.specs.Signatures.{FunctionType, Signature, kinds_of as signature_of}
 use Rattle.verifier.specs.Typed.{TypedProgram, AreArrows}
 use Rattle.verifier.specs.Kinded.{Scope, Turns, HasKinds, FitsSignature, has_function, scope_of}
-use Rattle.job_steps.specs.Motions.{stack_after, stack_after_move}
+use Rattle.job_steps.specs.Motions.{stack_after}
 use Rattle.job_steps.specs.Reached.{IsVerifiedProgram, IsVerifiedTask, AreTyped}
 use Rattle.job_steps.specs.Runs.{state_after}
-use Rattle.job_steps.specs.States.{Task, StackEntry, Active, State, callee_of, callee_at, callee_named, calls_with}
-use Rattle.job_steps.specs.States.{first_state, stack_kinds, new_entries}
-use Rattle.job_steps.specs.Steps.{Running, Stuck, question_of, results_of, has_on_top, can_call, can_run}
-use Rattle.job_steps.specs.Steps.{first_item, calls_past, calls_after, next_progress}
-use Rattle.job_steps.proofs.Bounds.{state_past, running_from, Went, went}
-use Rattle.job_steps.proofs.StackLemmas.{cut, on_top, kinds-pushed, kinds-moved, kinds-results}
+use Rattle.job_steps.specs.States.{Task, StackEntry, Active, State, callee_named, calls_with, first_state, stack_kinds}
+use Rattle.job_steps.specs.States.{new_entries}
+use Rattle.job_steps.specs.Steps.{Running, Stuck, question_of, results_of, has_on_top, can_call, can_run, first_item}
+use Rattle.job_steps.specs.Steps.{calls_past, calls_after, next_progress}
+use Rattle.job_steps.proofs.Bounds.{running_from, Went, went}
+use Rattle.job_steps.proofs.StackLemmas.{cut, on_top, kinds-pushed, kinds-moved}
 use Rattle.job_steps.proofs.Progresses.{item_of, goes}
-use Rattle.job_steps.proofs.RunLaws.{by_runs, over_stuck, running_stuck}
+use Rattle.job_steps.proofs.RunLaws.{by_runs, running_stuck}
 
 -- ---- bodies one after another
 
@@ -80,9 +78,6 @@ named (g ∷ fs) name place e =
       named = (bytes_eq-Decides f.name name).0 p.1;
     }
 
-same_arrow : (a b c d : List Kind) → ◌≡◌ {A = Option FunctionType} (Some (a, b)) (Some (c, d)) → (a ≡ c) × (b ≡ d)
-same_arrow a b c d e = grind arith
-
 arrow_in : (o : Option FunctionType) (arrow : FunctionType) →
     option_map (λ (a : FunctionType). Some a) o ≡ Some (Some arrow) → o ≡ Some arrow
 arrow_in o arrow e = grind arith
@@ -101,7 +96,7 @@ tops : (stack : List StackEntry) (below takes own : List Kind) → takes ≡ own
 tops stack below takes own t e = on_top stack below own (cut stack below own (e ∙ ap (λ ks. below ++ ks) t))
 
 moves : (lower upper l u depth : ℕ) → l ≡ lower → u ≡ upper → l + u ≤ depth → nat_le (lower + upper) depth ≡ true
-moves lower upper l u depth p q h = grind (arith, nat_tests)
+moves lower upper l u depth p q h = grind arith
 
 -- the entries afterwards
 abbrev stack_past : Item → ℕ → List StackEntry → List StackEntry
@@ -111,17 +106,7 @@ pushed : (item : Item) (next : ℕ) (stack : List StackEntry) (below takes gives
     takes ≡ operand_kinds (op_of item) → gives ≡ result_kinds (op_of item) → stack_kinds stack ≡ below ++ takes →
     stack_kinds (reverse (new_entries next (results_of (question_of item stack))) ++ drop
     (length (operand_kinds (op_of item))) stack) ≡ below ++ gives
-pushed item next stack below takes gives t g e = grind (arith, kinds-pushed, cut, kinds-results)
-
-moved_by : (motion : StackMove) (stack : List StackEntry) (below lows ups gives : List Kind) (lower upper : ℕ) →
-    length lows ≡ lower → length ups ≡ upper → stack_kinds stack ≡ below ++ (lows ++ ups) →
-    gives ≡ entries_after_move motion lows ups → stack_kinds (stack_after_move motion lower upper stack) ≡ below ++
-    gives
-moved_by motion stack below lows ups gives lower upper l u e g =
-    rw (← l, ← u, g) (kinds-moved motion stack below lows ups e).1
-
-chosen : (P : Body → Type 0) (flag : Bool) (first second : Body) → P first → P second → P (cond flag first second)
-chosen P flag first second p q = grind arith
+pushed item next stack below takes gives t g e = grind (arith, kinds-pushed, cut)
 
 pub regrouped : (kinds below under takes own : List Kind) → kinds ≡ below ++ own → own ≡ under ++ takes →
     kinds ≡ (below ++ under) ++ takes
@@ -139,21 +124,13 @@ module _ (signatures : List Signature) (verified : TypedProgram) (v : IsVerified
         IsCallee signatures verified name takes gives
     callee_at_place place e =
         let n = named verified.program.functions name place e in
-        let f = n.function in
-        let fit = All-contains (FitsSignature scope) verified.program.functions f
+        let fit = All-contains (FitsSignature scope) verified.program.functions n.function
         v.by_signatures.well_kinded.functions n.listed in
-        let signed : signature_of signatures f.name ≡ Some (takes, gives) = ap (signature_of signatures) n.named ∙ s in
-        let same = same_arrow fit.0 fit.1 takes gives (sym fit.2 ∙ signed) in
-        let arrow = arrow_at signatures verified.program.functions verified.arrows place f (takes, gives)
-        v.by_signatures.arrows n.there signed in
-        record {
-          function = f;
-          is = ap (callee_at verified) e
-              ∙ (ap (λ o. callee_of o (slice_get verified.arrows place)) n.there ∙ ap (callee_of (Some f)) arrow);
-          kinds = subst (λ ks. HasKinds scope f.body ks gives) same.0
-              (subst (HasKinds scope f.body fit.0) same.1 fit.3);
-          proper = All-contains (λ (g : Function). IsProperBody g.body) verified.program.functions f v.proper n.listed;
-        }
+        let proper = All-contains (λ (g : Function). IsProperBody g.body) verified.program.functions n.function v.proper
+        n.listed in
+        let arrow = arrow_at signatures verified.program.functions verified.arrows place n.function (takes, gives)
+        v.by_signatures.arrows n.there in
+        grind arith
 
     pub callee : IsTrue (has_function name verified.program.functions) → IsCallee signatures verified name takes gives
     callee there = grind (arith, callee_at_place)
@@ -182,8 +159,7 @@ module _ (signatures : List Signature) (verified : TypedProgram) (v : IsVerified
           (calls_past verified item (record { rest = rest; ret = ret }) outer)
           (stack_kinds (stack_past item next stack))
       typed_item next stack takes e (Move motion lower upper) inner t =
-          behind _ (moved_by motion stack (below ++ under) t.0 t.1 given lower upper t.2 t.3
-          (e ∙ ap (λ ks. (below ++ under) ++ ks) t.4) t.5)
+          grind (arith, behind, common_steps, kinds-moved)
       typed_item next stack takes e (Call name) inner t =
           let found = callee name takes given t.1 t.0 in
           let last = behind ((below ++ under) ++ given) refl in
@@ -206,19 +182,7 @@ module _ (signatures : List Signature) (verified : TypedProgram) (v : IsVerified
           typed_item rest below h.0 gives h.2 h.5 proper.1 out next stack h.1
           (regrouped (stack_kinds stack) below h.0 h.1 own e h.4) item proper.0 h.3
       typed_after flag next (Choice line first second end rest) (below, own, gives, e, h, proper, out) =
-          let now : stack_kinds (stack_past If next stack) ≡ (below ++ h.0) ++ [] =
-          pushed If next stack (below ++ h.0) (kind.Bool ∷ []) [] refl refl
-          (regrouped (stack_kinds stack) below h.0 (kind.Bool ∷ []) own e h.2) in (
-            below,
-            h.0,
-            gives,
-            now ∙ append-nil (below ++ h.0),
-            kinds_then scope (cond flag first second) rest h.0 h.1 gives
-                (chosen (λ b. HasKinds scope b h.0 h.1) flag first second h.3 h.4) h.5,
-            proper_then (cond flag first second) rest (chosen IsProperBody flag first second proper.0 proper.1)
-                proper.2,
-            out,
-          )
+          grind (arith, common_steps, kinds_then, proper_then)
 
       -- a call that is typed can go on
       pub runs_at : (rest : Body) →
@@ -238,44 +202,40 @@ IsTyped signatures task s =
     (1 ≤ length s.calls) × AreTyped (scope_of signatures task.verified.program) task.verified.results s.calls
     (stack_kinds s.stack)
 
-typed_next : (signatures : List Signature) (task : Task) (s next : State) → IsVerifiedTask signatures task →
-    IsTyped signatures task s → Went task s next → IsTyped signatures task next
-typed_next signatures task s next v typed w = grind (arith, typed, typed_after, item_of, state_past)
+module _ (signatures : List Signature) (task : Task) where
+  typed_next : (s next : State) → IsVerifiedTask signatures task → IsTyped signatures task s → Went task s next →
+      IsTyped signatures task next
+  typed_next s next v typed w = grind (arith, typed_after)
 
-typed_first : (signatures : List Signature) (task : Task) → IsVerifiedTask signatures task →
-    IsTyped signatures task (first_state task.verified)
-typed_first signatures task v =
-    let scope = scope_of signatures task.verified.program in
-    let results = task.verified.results in
-    let main = callee signatures task.verified v main_name [] results v.by_signatures.results
-    v.by_signatures.well_kinded.main in
-    subst (λ o. (1 ≤ length (calls_with o [])) × AreTyped scope results (calls_with o []) []) (sym main.is)
-    (omega arith, ([], [], results, refl, main.kinds, main.proper, refl))
+  typed_first : IsVerifiedTask signatures task → IsTyped signatures task (first_state task.verified)
+  typed_first v =
+      let scope = scope_of signatures task.verified.program in
+      let results = task.verified.results in
+      let main = callee signatures task.verified v main_name [] results v.by_signatures.results
+      v.by_signatures.well_kinded.main in
+      grind arith
 
-pub typed : (signatures : List Signature) (task : Task) → IsVerifiedTask signatures task → (n : ℕ) (s : State) →
-    state_after task n ≡ Running s → IsTyped signatures task s
-typed signatures task v zero s e =
-    let h : first_state task.verified ≡ s = (let g : Running (first_state task.verified) ≡ Running s = e in cc) in
-    subst (IsTyped signatures task) h (typed_first signatures task v)
-typed signatures task v (suc n) s e =
-    let from = running_from task (state_after task n) s e in
-    typed_next signatures task from.0 s v (typed signatures task v n from.0 from.1) (went task from.0 s from.2)
+  pub typed : IsVerifiedTask signatures task → (n : ℕ) (s : State) → state_after task n ≡ Running s →
+      IsTyped signatures task s
+  typed v zero s e = grind (arith, typed_first)
+  typed v (suc n) s e =
+      let from = running_from task (state_after task n) s e in
+      typed_next from.0 s v (typed v n from.0 from.1) (went task from.0 s from.2)
 
--- ---- never stuck
+  -- ---- never stuck
 
-step_stuck : (signatures : List Signature) (task : Task) (s : State) → IsVerifiedTask signatures task →
-    IsTyped signatures task s → next_progress task s ≡ Stuck → ⊥
-step_stuck signatures task s v t e =
-    let can : (call : Active) (outer : List Active) → s.calls ≡ call ∷ outer →
-    can_run task.verified (item_of call) s.stack ≡ true =
-    λ call outer calls. runs_at signatures task.verified v task.verified.results call.ret outer s.stack call.rest
-    (rw calls at t.1) in
-    let some = t.0 in
-    let h = goes task s in
-    grind (arith, can, over_stuck, running_stuck)
+  step_stuck : (s : State) → IsVerifiedTask signatures task → IsTyped signatures task s → next_progress task s ≡ Stuck →
+      ⊥
+  step_stuck s v t e =
+      let can : (call : Active) (outer : List Active) → s.calls ≡ call ∷ outer →
+      can_run task.verified (item_of call) s.stack ≡ true =
+      λ call outer calls. runs_at signatures task.verified v task.verified.results call.ret outer s.stack call.rest
+      (rw calls at t.1) in
+      let some = t.0 in
+      let h = goes task s in
+      grind arith
 
-pub never_stuck : (signatures : List Signature) (task : Task) → IsVerifiedTask signatures task → (n : ℕ) →
-    state_after task n ≡ Stuck → ⊥
-never_stuck signatures task v =
-    by_runs task (λ p. p ≡ Stuck → ⊥) (running_stuck (first_state task.verified))
-    (λ n s is. step_stuck signatures task s v (typed signatures task v n s is))
+  pub never_stuck : IsVerifiedTask signatures task → (n : ℕ) → state_after task n ≡ Stuck → ⊥
+  never_stuck v =
+      by_runs task (λ p. p ≡ Stuck → ⊥) (running_stuck (first_state task.verified))
+      (λ n s is. step_stuck s v (typed v n s is))

@@ -1,6 +1,5 @@
 -- What verified jobs reach, and how they end; the words of the vectors that they reach are those of their kinds.
-use Rattle.std.proofs.Common.{◌≡◌, ℕ, ◌+◌, List, [], ◌∷◌, map, refl, sym, ◌∙◌, ap, arith, zero, suc, ◌++◌, length, take}
-use Rattle.std.proofs.Common.{subst}
+use Rattle.std.proofs.Common.{◌≡◌, ℕ, ◌+◌, List, [], ◌∷◌, map, refl, ap, arith, zero, suc, ◌++◌, length, take, subst}
 use Rattle.vcode_base.specs.declared.outcome.Outcome.TheVariants.{Returned}
 use Rattle.vcode_base.specs.Laws.{ResultsHaveNeededLengths}
 use Rattle.signatures.specs.Signatures.{Signature}
@@ -10,7 +9,7 @@ use Rattle.job_steps.specs.States.{Vector, Task, StackEntry, State, values_of, A
 use Rattle.job_steps.specs.States.{new_entries}
 use Rattle.job_steps.specs.Steps.{Progress, Running, Over, Stuck, first_item, sources_of, question_of, results_of}
 use Rattle.std.specs.Prelude.{All}
-use Rattle.std.proofs.lemmas.List.Elements.{All-nil, All-cons, All-head, All-tail, All-take}
+use Rattle.std.proofs.lemmas.List.Elements.{All-nil, All-head, All-tail, All-take}
 use Rattle.vcode_base.specs.declared.kind.Kind.{Kind}
 use Rattle.vcode_base.specs.Instructions.{op_of}
 use Rattle.vcode_base.specs.Kinds.{HaveKinds, source_kinds}
@@ -18,10 +17,10 @@ use Rattle.vcode_reader.specs.Trees.{Item, Body, End, Do, Choice, IsBodyInstruct
 use Rattle.verifier.specs.Kinded.{Turns, scope_of}
 use Rattle.job_steps.specs.Motions.{top_entries}
 use Rattle.vcode_base.specs.declared.kind.Kind.TheVariants as kind
-use Rattle.job_steps.proofs.Bounds.{bounded, over_running, running_from, Went, went}
-use Rattle.job_steps.proofs.StackLemmas.{kind_of, map-reverse, cut, kinds-top_entries, All-reverse, All-stack_after}
-use Rattle.job_steps.proofs.Progresses.{item_of, calls_then, goes}
-use Rattle.job_steps.proofs.RunLaws.{by_runs, within, over_stuck}
+use Rattle.job_steps.proofs.Bounds.{bounded, running_from, Went, went}
+use Rattle.job_steps.proofs.StackLemmas.{kind_of, map-reverse, cut, All-reverse, All-stack_after}
+use Rattle.job_steps.proofs.Progresses.{item_of, goes}
+use Rattle.job_steps.proofs.RunLaws.{within}
 use Rattle.job_steps.proofs.Typed.{IsTyped, typed, never_stuck, regrouped}
 use Rattle.job_steps.proofs.ValueKinds.{kinds_of_results}
 
@@ -55,11 +54,10 @@ kinds-values (e ∷ es) = ap (λ ks. kind_of e ∷ ks) (kinds-values es)
 pub results_have_kinds : (signatures : List Signature) (task : Task) → IsVerifiedTask signatures task →
     (n : ℕ) (values : List Vector) (x p : ℕ) → state_after task n ≡ Over (Returned values) x p →
     map (λ v. v.kind) values ≡ task.verified.results
-results_have_kinds signatures task v n values x p =
-    by_runs task (λ q. q ≡ Over (Returned values) x p → map (λ (v : Vector). v.kind) values ≡ task.verified.results)
-    (λ e. absurd (over_running _ x p _ (sym e)))
-    (λ m s is e. let t = typed signatures task v m s is in let h = goes task s in
-    grind (arith, over_stuck, over_running, item_of, calls_then, map-reverse, kinds-values)) n
+results_have_kinds signatures task v zero values x p e = grind arith
+results_have_kinds signatures task v (suc n) values x p e =
+    let before = results_have_kinds signatures task v n values x p in
+    grind (arith, typed signatures task v n, goes, map-reverse, kinds-values)
 
 abbrev pub IsKept : StackEntry → Type 0
 IsKept e = HasItsKind e.value
@@ -74,38 +72,34 @@ have_kinds (e ∷ es) all = (All-head IsKept e es all, have_kinds es (All-tail I
 read_kinds : (stack : List StackEntry) (below takes own : List Kind) → takes ≡ own →
     stack_kinds stack ≡ below ++ takes → All IsKept stack → HaveKinds own (words_of (top_entries (length own) stack))
 read_kinds stack below takes own t e all =
-    let parts = cut stack below own (e ∙ ap (λ ks. below ++ ks) t) in
-    let tops = top_entries (length own) stack in
-    let kept = have_kinds tops
+    let kept = have_kinds (top_entries (length own) stack)
     (All-reverse IsKept (take (length own) stack) (All-take IsKept (length own) stack all)) in
-    rw (kinds-top_entries (length own) stack own parts.top) at kept
+    grind (arith, cut, map-reverse)
 
-sources_kinds : (signatures : List Signature) (task : Task) (item : Item) (takes gives below : List Kind)
-    (stack : List StackEntry) → IsBodyInstruction item → Turns (scope_of signatures task.verified.program) item takes
-    gives → stack_kinds stack ≡ below ++ takes → All IsKept stack →
-    HaveKinds (source_kinds (op_of item)) (sources_of item stack)
-sources_kinds signatures task item takes gives below stack own t e all = grind (arith, read_kinds)
+module _ (signatures : List Signature) (task : Task) where
+  sources_kinds : (item : Item) (takes gives below : List Kind) (stack : List StackEntry) → IsBodyInstruction item →
+      Turns (scope_of signatures task.verified.program) item takes gives → stack_kinds stack ≡ below ++ takes →
+      All IsKept stack → HaveKinds (source_kinds (op_of item)) (sources_of item stack)
+  sources_kinds item takes gives below stack own t e all = grind (arith, read_kinds)
 
--- the next instruction's
-next_kinds : (signatures : List Signature) (task : Task) (results : List Kind) (rest : Body) (ret : ℕ)
-    (outer : List Active) (stack : List StackEntry) → AreTyped (scope_of signatures task.verified.program) results
-    (record { rest = rest; ret = ret } ∷ outer) (stack_kinds stack) → All IsKept stack →
-    HaveKinds (source_kinds (op_of (first_item rest ret).item)) (sources_of (first_item rest ret).item stack)
-next_kinds signatures task results End ret outer stack t all = tt
-next_kinds signatures task results (Do item line rest) ret outer stack (below, own, gives, e, h, proper, out) all =
-    sources_kinds signatures task item h.1 h.2 (below ++ h.0) stack proper.0 h.3
-    (regrouped (stack_kinds stack) below h.0 h.1 own e h.4) all
-next_kinds signatures task results (Choice line first second end rest) ret outer stack
-    (below, own, gives, e, h, proper, out) all =
-    read_kinds stack (below ++ h.0) (kind.Bool ∷ []) (kind.Bool ∷ []) refl
-    (regrouped (stack_kinds stack) below h.0 (kind.Bool ∷ []) own e h.2) all
-
--- ---- states
+  -- the next instruction's
+  next_kinds : (results : List Kind) (rest : Body) (ret : ℕ) (outer : List Active) (stack : List StackEntry) →
+      AreTyped (scope_of signatures task.verified.program) results (record { rest = rest; ret = ret } ∷ outer)
+      (stack_kinds stack) → All IsKept stack → HaveKinds (source_kinds (op_of (first_item rest ret).item))
+      (sources_of (first_item rest ret).item stack)
+  next_kinds results End ret outer stack t all = tt
+  next_kinds results (Do item line rest) ret outer stack (below, own, gives, e, h, proper, out) all =
+      sources_kinds item h.1 h.2 (below ++ h.0) stack proper.0 h.3
+      (regrouped (stack_kinds stack) below h.0 h.1 own e h.4) all
+  next_kinds results (Choice line first second end rest) ret outer stack
+      (below, own, gives, e, h, proper, out) all =
+      read_kinds stack (below ++ h.0) (kind.Bool ∷ []) (kind.Bool ∷ []) refl
+      (regrouped (stack_kinds stack) below h.0 (kind.Bool ∷ []) own e h.2) all
+  -- ---- states
 
 new_kept : (next : ℕ) (vs : List Vector) → All HasItsKind vs → All IsKept (new_entries next vs)
 new_kept next [] all = All-nil IsKept
-new_kept next (v ∷ vs) all =
-    grind (arith, All-cons, All-head, All-tail, (new_kept (next + 1) vs (All-tail HasItsKind v vs all)))
+new_kept next (v ∷ vs) all = grind (arith, All-head, (new_kept (next + 1) vs (All-tail HasItsKind v vs all)))
 
 kinds_at : (signatures : List Signature) (task : Task) (s : State) → IsTyped signatures task s → All IsKept s.stack →
     (call : Active) (outer : List Active) → s.calls ≡ call ∷ outer →

@@ -57,6 +57,7 @@ impl<T: Copy, A: Allocator> BoundedStack<T, A> {
     }
 
     /// All entries, from the bottom up.
+    #[tactic(auto, using(crate::proofs::Turns::of_slice))]
     #[inline(always)]
     pub(crate) fn as_slice(&self) -> &[T]
         ensures { result.now ≡ reverse self.now.entries }

@@ -119,6 +119,7 @@ impl Frame {
     }
 
     /// Its function, which has a line at its place.
+    #[tactic(auto, using(crate::proofs::Standing::of_function))]
     #[inline(always)]
     fn function<'a, A: Allocator>(self, program: &'a Program<A>) -> &'a Function<A>
         requires { (call : Active) × Stands program.now.functions self call }

@@ -80,13 +80,14 @@ pub fn each_line_remains()
 
 /// A track that is at the state of a running job, and is advanced by the job's next instruction, is at the
 /// state after it, whatever its cells name.
+#[tactic(auto, using(crate::proofs::Following::of_tracks))]
 pub fn each_track_follows<C>()
     ensures { EachTrackFollows C }
 {}
 
 /// If a track is at a state that a verified job reaches, some call is active, and its line can be read;
 /// the operands of its next instruction are there, are of their kinds, and lie within what the job may hold.
-#[tactic(auto, using(crate::proofs::StepLemmas::steps_can_begin))]
+#[tactic(auto, using(crate::proofs::StepLemmas::begins_at))]
 pub fn steps_can_begin<C>()
     ensures { StepsCanBegin C }
 {
@@ -209,6 +210,7 @@ pub fn passes_stay()
 {}
 
 /// Before the first event no words are granted, no job was passed by, and each job is where its run alone begins.
+#[tactic(auto, using(crate::proofs::Kept::of_first_kept))]
 pub fn first_are_kept()
     ensures { FirstAreKept }
 {}
@@ -231,7 +233,7 @@ pub fn recalls_keep()
 
 /// A verified job that an event leaves ended is over alone, after one instruction more than it had
 /// executed, with its own outcome and counts.
-#[tactic(auto, using(crate::proofs::Kept::ended_is_over))]
+#[tactic(auto, using(crate::proofs::Kept::of_ends))]
 pub fn ended_are_over()
     ensures { EndedAreOver }
 {
@@ -242,7 +244,7 @@ pub fn ended_are_over()
 
 /// At each standing a verified job has executed at most its budget's instructions, it held and needed at most its
 /// words, and what it holds is at most what is reserved for it.
-#[tactic(auto, using(crate::proofs::Kept::use_is_within))]
+#[tactic(auto, using(crate::proofs::Kept::of_use))]
 pub fn use_is_within()
     ensures { UseIsWithin }
 {
@@ -327,7 +329,7 @@ pub fn leads_join()
 {}
 
 /// A recall of each job, one after another, gives up each step that has begun.
-#[tactic(auto, using(crate::proofs::EventOrder::recalls_are_events))]
+#[tactic(auto, using(crate::proofs::EventOrder::of_recalls))]
 pub fn recalls_are_events()
     ensures { RecallsAreEvents }
 {}

@@ -84,7 +84,7 @@ pub(crate) fn need(op: Op, ops: &[&[i64]]) -> (u64, u64)
 /// [`BadLength`](DataFault::BadLength) if a descriptor is made of a negative length or of lengths
 /// whose total is above [`MOST_TOTAL`](vcode_base::limits::MOST_TOTAL). What the results then hold is
 /// not specified.
-#[tactic(auto, unfolding(vcode_base::specs::Meaning::shape, vcode_base::specs::Meaning::need, vcode_base::specs::Meaning::value_fault, vcode_base::specs::Meaning::result_of, vcode_base::specs::Meaning::second_result_of))]
+#[tactic(auto, unfolding(vcode_base::specs::Meaning::shape, vcode_base::specs::Meaning::need))]
 #[inline(always)]
 pub fn fill(op: Op, ops: &[&[i64]], first: &mut [i64], second: &mut [i64]) -> Result<(), DataFault>
     requires kinds { HaveKinds (source_kinds op) (contents ops.now) }
