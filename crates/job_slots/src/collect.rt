@@ -45,6 +45,7 @@ pub(crate) fn results<A: Allocator + Clone>(
 
 /// A copy of the words of a block. If one of the values, which are copies of the first cells' blocks, is a copy of this
 /// block, it shares that one's words.
+#[tactic(auto, using(crate::proofs::Shown::of_copies))]
 fn copy_of<A: Allocator + Clone>(
     alloc: A,
     block: BlockId,

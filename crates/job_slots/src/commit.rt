@@ -149,7 +149,7 @@ pub(crate) fn held_under<A: Allocator>(
 }
 
 /// Takes the operands of an instruction off the blocks, and places its results.
-#[tactic(auto, using(crate::proofs::Placed::same_grants, crate::proofs::Operands::deep_enough))]
+#[tactic(auto, using(crate::proofs::Executed::same_grants, crate::proofs::Stacks::deep_enough))]
 fn settle<C: Class, A: Allocator>(
     turn: Turn,
     track: &Track<BlockId, A>,
@@ -177,7 +177,7 @@ fn settle<C: Class, A: Allocator>(
 }
 
 /// The same for an instruction of two results.
-#[tactic(auto, using(crate::proofs::Operands::deep_enough))]
+#[tactic(auto, using(crate::proofs::Stacks::deep_enough))]
 #[inline(never)]
 fn settle_two<A: Allocator>(
     turn: Turn,
@@ -201,6 +201,7 @@ fn settle_two<A: Allocator>(
 }
 
 /// One reference less to each block that the instruction takes off the stack, and one more to each that it copies.
+#[tactic(auto, using(crate::proofs::Stacks::few_copied))]
 #[inline(always)]
 fn take<A: Allocator>(track: &Track<BlockId, A>, number: usize, blocks: &mut JobMemory<A>, op: Op)
     requires has_grant { HasGrant blocks.old number }
@@ -226,6 +227,7 @@ fn take<A: Allocator>(track: &Track<BlockId, A>, number: usize, blocks: &mut Job
 
 /// A new block of the words in the place of the operands, which go after it is placed, or before it under the second
 /// rule. If one of them is named by nothing else and has as many words, the new block takes its number and its place.
+#[tactic(auto, using(crate::proofs::InPlace::of_exchanges))]
 #[inline(always)]
 fn exchange<A: Allocator>(
     turn: Turn,
@@ -269,7 +271,7 @@ fn exchange<A: Allocator>(
 }
 
 /// The first of these blocks that one reference names and that has `len` words, if there is one.
-#[tactic(auto, using(crate::proofs::Exchanges::named_at))]
+#[tactic(auto, using(crate::proofs::InPlace::named_at))]
 #[inline(always)]
 fn dying<A: Allocator>(blocks: &JobMemory<A>, ids: &[BlockId], len: usize) -> Option<BlockId>
     requires { AreLive blocks.now.memory ids.now }
@@ -305,7 +307,7 @@ pub(crate) fn place<A: Allocator>(
 }
 
 /// The cells at the top, of which there are at least `count`.
-#[tactic(auto, using(crate::proofs::Reversed::top_slice))]
+#[tactic(auto, using(crate::proofs::Stacks::top_slice))]
 #[inline(always)]
 pub(crate) fn top(cells: &[BlockId], count: usize) -> &[BlockId]
     requires { count ≤ length cells.now }
@@ -315,7 +317,7 @@ pub(crate) fn top(cells: &[BlockId], count: usize) -> &[BlockId]
 }
 
 /// The `lower` cells that lie below the top `upper`.
-#[tactic(auto, using(crate::proofs::Reversed::moved_slice))]
+#[tactic(auto, using(crate::proofs::Stacks::moved_slice))]
 #[inline(always)]
 fn below_top(cells: &[BlockId], lower: usize, upper: usize) -> &[BlockId]
     requires { lower + upper ≤ length cells.now }

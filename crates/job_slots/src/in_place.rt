@@ -121,7 +121,6 @@ impl Rewriter for Overlay {
     ghost faults_over = { λ o others words fault.
         value_fault (SegmentedOp (DefaultPermute o.scalar)) (with_third [] others words) ≡ Some fault };
 
-    #[tactic(auto, unfolding(vcode_base::specs::Meaning::shape, vcode_base::specs::Meaning::need, vcode_base::specs::Meaning::value_fault, vcode_base::specs::Meaning::result_of, vcode_base::specs::Meaning::second_result_of))]
     fn rewrite(
         &self,
         lent: &[&[i64]],
@@ -186,6 +185,7 @@ fn result_count(second: usize) -> usize
 /// # Errors
 ///
 /// The fault that the values of the operands have. The cells hold the references then that they held before.
+#[tactic(auto, using(crate::proofs::InPlace::of_computations))]
 pub(crate) fn execute_in_place<A: Allocator>(
     due: Due,
     job: &Job<A>,
@@ -272,6 +272,7 @@ fn compute<A: Allocator>(
 }
 
 /// The same for a `DPERMUTE` whose default is named by nothing else.
+#[tactic(auto, using(crate::proofs::InPlace::default_listed, crate::proofs::InPlace::words_with_third))]
 fn compute_over<A: Allocator>(
     turn: Turn,
     scalar: Scalar,

@@ -25,17 +25,20 @@ pub fn new_is_shown()
 {}
 
 /// A slot whose step is given up shows its job's standing before the step.
+#[tactic(auto, using(crate::proofs::Standings::recalled_is_shown))]
 pub fn recalled_is_shown()
     ensures { RecalledIsShown }
 {}
 
 /// The cells of a slot that shows its job's standing name blocks that are there.
+#[tactic(auto, using(crate::proofs::Shown::shown_are_live))]
 pub fn shown_are_live()
     ensures { ShownAreLive }
 {}
 
 /// A slot that shows a live job is at the state that the job reaches alone, by its counts, its calls, and the words of
 /// its entries.
+#[tactic(auto, using(crate::proofs::Shown::shown_are_reached))]
 pub fn shown_are_reached()
     ensures { ShownAreReached }
 {}

@@ -227,6 +227,7 @@ fn constant(list: &[i64]) -> Operands<'_>
 }
 
 /// The words of the cells at the top that an instruction takes.
+#[tactic(auto, using(crate::proofs::Stacks::of_top))]
 #[inline(always)]
 fn top_operands<'a, A: Allocator>(
     op: Op,
@@ -244,6 +245,7 @@ fn top_operands<'a, A: Allocator>(
 }
 
 /// The words of blocks, of which there are at most as many as an instruction has operands.
+#[tactic(auto, using(crate::proofs::Stacks::of_lent))]
 #[inline(always)]
 fn words_of_blocks<'a, A: Allocator>(ids: &[BlockId], blocks: &'a JobMemory<A>) -> Operands<'a>
     requires few { length ids.now ≤ MOST_OPERANDS }

@@ -210,6 +210,7 @@ impl<A: Allocator> Slot<A> {
     }
 
     /// Begins the next step of the job, which is live, on a desk of at least its words, or ends the job.
+    #[tactic(auto, using(crate::proofs::Standings::of_begins))]
     fn begin_settled(
         &mut self,
         turn: Turn,
@@ -432,6 +433,7 @@ impl<A: Allocator> Slot<A> {
     }
 
     /// Passes over each `ELSE` and `ENDIF` before the next instruction of the job, which is live.
+    #[tactic(auto, using(crate::proofs::Standings::settled_shows, crate::proofs::Standings::runs_inside))]
     #[inline(always)]
     fn settle(&mut self, turn: Turn, job: &Job<A>, blocks: &JobMemory<A>)
         requires shows { Shows turn.number blocks.now (ruled turn.rule job.now) self.old }
@@ -534,6 +536,7 @@ impl<A: Allocator> Slot<A> {
 
     /// Carries out the next instruction of a job that is live, which has no operands: a `CONST`, whose result is this
     /// list, or an instruction that moves entries or calls, which makes no words.
+    #[tactic(auto, using(crate::proofs::NextSteps::answered, crate::proofs::Standings::runs))]
     fn step_without_operands<C: Class>(
         &mut self,
         turn: Turn,
@@ -606,7 +609,7 @@ impl<A: Allocator> Slot<A> {
     }
 
     /// Ends the job, which is live, as its next instruction ends it: the job doesn't go on.
-    #[tactic(auto, using(crate::proofs::OneGo::ended_by, crate::proofs::Overlaid::may_end))]
+    #[tactic(auto, using(crate::proofs::Standings::ended_by, crate::proofs::InPlace::may_end))]
     #[cold]
     #[inline(never)]
     fn end_by_step(
@@ -680,7 +683,7 @@ impl<A: Allocator> Slot<A> {
     ///
     /// [`AllocError`] if memory for copies of the results was refused, which comes only at a job that returned. Nothing
     /// changes then.
-    #[tactic(auto, using(crate::proofs::Holding::words_of_none, crate::proofs::Collecting::ended_holds))]
+    #[tactic(auto, using(crate::proofs::Cells::words_of_none, crate::proofs::Shown::ended_holds))]
     pub fn collect(
         &mut self,
         turn: Turn,
@@ -739,6 +742,7 @@ impl<A: Allocator> Slot<A> {
     }
 
     /// The job goes on past its step, or ends with it.
+    #[tactic(auto, using(crate::proofs::Standings::of_commits))]
     fn commit(
         &mut self,
         turn: Turn,

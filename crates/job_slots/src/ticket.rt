@@ -147,6 +147,7 @@ pub(crate) fn needs_or_end<A: Allocator>(
 }
 
 /// What an instruction needs, if `held` words are held, or what ends the job before.
+#[tactic(auto, using(crate::proofs::NextSteps::of_needs))]
 #[inline(always)]
 fn needs_beside<A: Allocator>(
     track: &Track<BlockId, A>,

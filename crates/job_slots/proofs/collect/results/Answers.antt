@@ -6,8 +6,7 @@ use Rattle.std.proofs.lemmas.Slice.Zip.{zip_turn, zip_end}
 use Rattle.job_steps.specs.Runs.{outcome}
 use Rattle.job_steps.specs.States.{Vector, ruled}
 use Rattle.verifier.specs.Typed.{TypedProgram}
-use Rattle.job_slots.proofs.Copied.{copied_more}
-use Rattle.job_slots.proofs.Results.{ArePaired, IsResult, values_in, result_of_turn, all_results}
+use Rattle.job_slots.proofs.Shown.{copied_more, ArePaired, IsResult, values_in, result_of_turn, all_results}
 use Rattle.job_slots.proofs.collect.results.Given.{Over}
 use Rattle.job_slots.proofs.collect.results.Goals as goal
 use Rattle.job_slots.proofs.collect.results.Goals.{In-Some, After-into_iter-id-iterator}

@@ -2,7 +2,7 @@ use Rattle.std.proofs.Common.{◌≡◌, length, take}
 use Rattle.job_steps.specs.Runs.{outcome}
 use Rattle.job_steps.specs.States.{ruled}
 use Rattle.job_slots.specs.Copies.{AreCopies}
-use Rattle.job_slots.proofs.Results.{values_in}
+use Rattle.job_slots.proofs.Shown.{values_in}
 use Rattle.job_slots.proofs.collect.results.Given as goal
 
 -- so far the values are the first results, and copies of the first cells' blocks

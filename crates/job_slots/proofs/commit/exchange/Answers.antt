@@ -3,8 +3,8 @@ use Rattle.std.proofs.Common.{◌≡◌, ◌∙◌, [], sym, arith}
 use Rattle.std.proofs.lemmas.List.{reverse-reverse}
 use Rattle.job_memory.specs.JobBlocks.{AreOwn}
 use Rattle.job_slots.specs.Commits.{taken_ids}
-use Rattle.job_slots.proofs.Exchanges.{held_beside_none, nothing_in, own_are_live, own_still}
-use Rattle.job_slots.proofs.Exchanges.{placed_and_released, released_and_placed}
+use Rattle.job_slots.proofs.InPlace.{nothing_in, own_are_live, own_still, placed_and_released}
+use Rattle.job_slots.proofs.InPlace.{released_and_placed}
 use Rattle.job_slots.proofs.commit.exchange.Given.{Over}
 use Rattle.job_slots.proofs.commit.exchange.Goals as goal
 use Rattle.job_slots.proofs.commit.exchange.Goals.{After-top-operands, Then-is_empty}
@@ -23,19 +23,11 @@ none g c =
     sym (operands_are g (goal.at.Then-is_empty g c).After-top-operands)
     ∙ nothing_in c.top-operands.result.now (sym c.is_empty.ensures ∙ c.if-is_empty.true)
 
-pub place-requires-clause-room : goal.place-requires-clause-room
-place-requires-clause-room g c =
-    let same = held_beside_none c.args.turn.rule c.args.turn.number c.args.op c.args.track.now.cells c.args.blocks.now
-    (none g (goal.at.place-requires-clause-room g c).Then-is_empty) in
-    omega (arith, same, c.requires.room)
-
 pub returns-then-is_empty : goal.returns-then-is_empty
 returns-then-is_empty g c =
-    let at = goal.at.returns-then-is_empty g c in
-    let has = released_and_placed (assumption) c.args.turn.rule _ _ [] _ _ _ _
-    c.place.ensures.fresh.0 c.place.ensures.fresh.1 (sym (none g at.Then-is_empty)) c.place.ensures.placed
-    c.requires.own in
-    assumption has
+    assumption (released_and_placed (assumption) c.args.turn.rule _ _ [] _ _ _ _ c.place.ensures.fresh.0
+    c.place.ensures.fresh.1 (sym (none g (goal.at.returns-then-is_empty g c).Then-is_empty)) c.place.ensures.placed
+    c.requires.own)
 
 -- ---- in the place of an operand that goes
 
@@ -44,20 +36,13 @@ dying-requires g c =
     own_are_live c.args.turn.number c.args.blocks.now c.top-operands.result.now
     (own g (goal.at.dying-requires g c).After-top-operands)
 
-pub exchange_at-requires-clause-own : goal.exchange_at-requires-clause-own
-exchange_at-requires-clause-own g c = own g (goal.at.exchange_at-requires-clause-own g c).After-top-operands
-
 pub returns-in-Some : goal.returns-in-Some
 returns-in-Some g c =
     let at = (goal.at.returns-in-Some g c).After-top-operands in
-    let has = released_and_placed (assumption) c.args.turn.rule _ _ _ _ _ _ _ c.exchange_at.ensures.fresh.0
-    c.exchange_at.ensures.fresh.1 (operands_are g at) c.exchange_at.ensures.exchanged c.requires.own in
-    assumption has
+    assumption (released_and_placed (assumption) c.args.turn.rule _ _ _ _ _ _ _ c.exchange_at.ensures.fresh.0
+    c.exchange_at.ensures.fresh.1 (operands_are g at) c.exchange_at.ensures.exchanged c.requires.own)
 
 -- ---- placed, then released
-
-pub place-id-requires-clause-room : goal.place-id-requires-clause-room
-place-id-requires-clause-room g c = rw c.in-First.is at c.requires.room
 
 pub release_all-requires-clause-own : goal.release_all-requires-clause-own
 release_all-requires-clause-own g c =
@@ -69,23 +54,13 @@ release_all-requires-clause-own g c =
 pub returns-in-First : goal.returns-in-First
 returns-in-First g c =
     let at = (goal.at.returns-in-First g c).After-top-operands in
-    let has = placed_and_released (assumption) c.args.turn.rule _ _ _ _ _ _ _ _ c.place-id.ensures.fresh.0
-    c.place-id.ensures.fresh.1 c.place-id.ensures.placed (operands_are g at) c.release_all.ensures c.requires.own in
-    assumption has
+    assumption (placed_and_released (assumption) c.args.turn.rule _ _ _ _ _ _ _ _ c.place-id.ensures.fresh.0
+    c.place-id.ensures.fresh.1 c.place-id.ensures.placed (operands_are g at) c.release_all.ensures c.requires.own)
 
 -- ---- released, then placed
-
-pub exchange-requires-clause-own : goal.exchange-requires-clause-own
-exchange-requires-clause-own g c = own g (goal.at.exchange-requires-clause-own g c).After-top-operands
-
-pub exchange-requires-clause-room : goal.exchange-requires-clause-room
-exchange-requires-clause-room g c =
-    rw (operands_are g (goal.at.exchange-requires-clause-room g c).After-top-operands)
-    (rw c.in-Second.is at c.requires.room)
 
 pub returns-in-Second : goal.returns-in-Second
 returns-in-Second g c =
     let at = (goal.at.returns-in-Second g c).After-top-operands in
-    let has = released_and_placed (assumption) c.args.turn.rule _ _ _ _ _ _ _ c.exchange.ensures.fresh.0
-    c.exchange.ensures.fresh.1 (operands_are g at) c.exchange.ensures.exchanged c.requires.own in
-    assumption has
+    assumption (released_and_placed (assumption) c.args.turn.rule _ _ _ _ _ _ _ c.exchange.ensures.fresh.0
+    c.exchange.ensures.fresh.1 (operands_are g at) c.exchange.ensures.exchanged c.requires.own)

@@ -16,9 +16,6 @@ can g c =
     c.steps_execute.ensures _ _ _ _ _ _ _ _ c.requires.flying c.requires.verified c.used-used.ensures.tidy
     c.requires.made.answered
 
-pub settle-results-requires-clause-two : goal.settle-results-requires-clause-two
-settle-results-requires-clause-two g c = (can g (goal.at.settle-results-requires-clause-two g c).After-used-used).two
-
 pub settle-results-requires-clause-room : goal.settle-results-requires-clause-room
 settle-results-requires-clause-room g c =
     let known = can g (goal.at.settle-results-requires-clause-room g c).After-used-used in

@@ -3,7 +3,7 @@ use Rattle.std.proofs.Common.{arith}
 use Rattle.job_steps.specs.States.{ruled}
 use Rattle.job_slots.specs.Answers.{IsAnswered}
 use Rattle.job_slots.specs.Executions.{CanExecute}
-use Rattle.job_slots.proofs.Operands.{deep_enough}
+use Rattle.job_slots.proofs.Stacks.{deep_enough}
 use Rattle.job_slots.proofs.commit.made_in_flight.Given.{Over}
 use Rattle.job_slots.proofs.commit.made_in_flight.Goals as goal
 use Rattle.job_slots.proofs.commit.made_in_flight.Goals.{After-flow-flow}

@@ -5,7 +5,7 @@ use Rattle.std.specs.Prelude.{◌==◌}
 use Rattle.vcode_base.specs.declared.rule.Rule.{Rule}
 use Rattle.vcode_base.specs.declared.rule.Rule.TheVariants.{First}
 use Rattle.job_slots.specs.InPlace.{result_count}
-use Rattle.job_slots.proofs.Exchanges.{HasReplaced, nothing_in, own_are_live, own_still, placed_and_released}
+use Rattle.job_slots.proofs.InPlace.{HasReplaced, nothing_in, own_are_live, own_still, placed_and_released}
 use Rattle.job_slots.proofs.InPlace.{one_computed, two_computed}
 use Rattle.job_slots.proofs.in_place.compute_anew.Given.{Over}
 use Rattle.job_slots.proofs.in_place.compute_anew.Goals as goal

@@ -1,5 +1,5 @@
 -- The block of the default is written over with the result, and the other operands are released.
-use Rattle.std.proofs.Common.{◌≡◌, ◌≤◌, ◌∙◌, [], length, map, refl, ap, arith}
+use Rattle.std.proofs.Common.{◌≡◌, ◌≤◌, ◌∙◌, [], length, map, refl, arith}
 use Rattle.std.proofs.lemmas.List.{length-map}
 use Rattle.vcode_base.specs.declared.kind.Scalar.{Scalar}
 use Rattle.vcode_base.specs.declared.kind.Scalar.TheVariants.{Int, Bool}
@@ -7,14 +7,12 @@ use Rattle.vcode_base.specs.declared.op.Op.{Op}
 use Rattle.vcode_base.specs.declared.op.Op.TheVariants.{Segmented as SegmentedOp}
 use Rattle.vcode_base.specs.declared.op.Segmented.TheVariants.{DefaultPermute}
 use Rattle.vcode_base.specs.Kinds.{result_kinds}
-use Rattle.vcode_base.specs.Meaning.{value_fault}
 use Rattle.refcounts.specs.Making.{words_at}
 use Rattle.refcounts.specs.SharedState.{IsLive, occurrences}
 use Rattle.job_slots.specs.InPlace.{with_third}
-use Rattle.job_slots.proofs.Exchanges.{own_are_live, released_and_placed}
-use Rattle.job_slots.proofs.InPlace.{one_computed}
-use Rattle.job_slots.proofs.LettingGo.{own_named}
-use Rattle.job_slots.proofs.Overlaid.{default_listed, keeps_references, others_differ, others_too, words_with_third}
+use Rattle.job_slots.proofs.InPlace.{own_are_live, released_and_placed, one_computed, default_listed, keeps_references}
+use Rattle.job_slots.proofs.InPlace.{others_differ, others_too, words_with_third}
+use Rattle.job_slots.proofs.Cells.{own_named}
 use Rattle.job_slots.proofs.in_place.compute_over.Given.{Over}
 use Rattle.job_slots.proofs.in_place.compute_over.Goals as goal
 use Rattle.job_slots.proofs.in_place.compute_over.Goals.{After-changes_join}
@@ -30,10 +28,6 @@ lists g c =
     rw c.requires.are
     (words_with_third (words_at c.args.blocks.now.memory) c.args.overlaid.default c.args.overlaid.others
     c.requires.four)
-
-pub exchange_with-requires-clause-listed : goal.exchange_with-requires-clause-listed
-exchange_with-requires-clause-listed g c =
-    listed g (goal.at.exchange_with-requires-clause-listed g c).After-changes_join
 
 pub exchange_with-requires-clause-live : goal.exchange_with-requires-clause-live
 exchange_with-requires-clause-live g c =
@@ -69,11 +63,6 @@ returns-in-Ok-clause-computed g c =
     c.args.overlaid.default e.words c.args.blocks.now c.exchange_with.new.self c.exchange_with.ensures.fresh.0
     c.exchange_with.ensures.fresh.1 refl e.rewritten c.requires.own in
     one_computed _ _ op _ _ _ [] _ _ replaced (rw (lists g at) e.so) (one c.args.scalar) refl
-
-pub returns-in-Err-clause-fault : goal.returns-in-Err-clause-fault
-returns-in-Err-clause-fault g c =
-    ap (value_fault (SegmentedOp (DefaultPermute c.args.scalar)))
-    (lists g (goal.at.returns-in-Err-clause-fault g c).After-changes_join) ∙ c.in-Err.ensures.fault.so
 
 pub returns-in-Err-clause-kept : goal.returns-in-Err-clause-kept
 returns-in-Err-clause-kept g c =

@@ -1,19 +1,16 @@
 -- An instruction is executed by computing its results from the blocks of its operands.
-use Rattle.std.proofs.Common.{◌≡◌, ◌∙◌, ◌+◌, ℕ, List, length, map, refl, sym, ap, arith, length-take}
-use Rattle.std.proofs.lemmas.List.{length-reverse, reverse-reverse}
+use Rattle.std.proofs.Common.{◌≡◌, ◌+◌, ℕ, length, refl, sym, ap, arith}
+use Rattle.std.proofs.lemmas.List.{reverse-reverse}
 use Rattle.vcode_base.specs.declared.rule.Rule.TheVariants.{Second}
-use Rattle.vcode_base.specs.Meaning.{value_fault}
-use Rattle.refcounts.specs.Making.{words_at}
-use Rattle.job_memory.specs.JobBlocks.{held_words, words_of}
+use Rattle.job_memory.specs.JobBlocks.{held_words}
 use Rattle.job_steps.specs.declared.flow.Flow.TheVariants.{Next}
 use Rattle.job_steps.specs.States.{ruled}
 use Rattle.job_steps.specs.Tickets.{AreResults, question_by}
 use Rattle.job_slots.specs.Commits.{held_under, taken_ids}
 use Rattle.job_slots.specs.Executions.{CanExecute, HasSettled, IsExecuted, ids_in}
-use Rattle.job_slots.specs.InPlace.{operands_in, result_count}
+use Rattle.job_slots.specs.InPlace.{operands_in}
 use Rattle.job_slots.proofs.Executed.{executed_past}
 use Rattle.job_slots.proofs.InPlace.{computed_long, goes_next}
-use Rattle.job_slots.proofs.Operands.{few_operands}
 use Rattle.job_slots.proofs.in_place.execute_in_place.Given.{Over}
 use Rattle.job_slots.proofs.in_place.execute_in_place.Goals as goal
 use Rattle.job_slots.proofs.in_place.execute_in_place.Goals.{After-top-operands, After-advance_settled, In-Ok}
@@ -21,25 +18,6 @@ use Rattle.job_slots.proofs.in_place.execute_in_place.Goals.{After-top-operands,
 operands_are : (g : Over) (c : goal.After-top-operands g) →
     c.top-operands.result.now ≡ taken_ids c.args.due.placement.op c.args.track.now.cells
 operands_are g c = grind (arith, reverse-reverse)
-
-pub compute-requires-clause-room : goal.compute-requires-clause-room
-compute-requires-clause-room g c =
-    omega (arith, c.requires.placeable.room, c.requires.lent, ap words_of c.requires.grant)
-
-pub compute-requires-clause-few : goal.compute-requires-clause-few
-compute-requires-clause-few g c = grind (arith, operands_are, length-reverse, length-take, few_operands)
-
-pub compute-requires-clause-own : goal.compute-requires-clause-own
-compute-requires-clause-own g c =
-    rw (operands_are g (goal.at.compute-requires-clause-own g c).After-top-operands) c.requires.placeable.own
-
-pub compute-requires-clause-can : goal.compute-requires-clause-can
-compute-requires-clause-can g c =
-    let at = goal.at.compute-requires-clause-can g c in
-    rw (operands_are g at.After-top-operands, c.requires.lent) c.requires.placeable.can
-
-pub compute-requires-clause-count : goal.compute-requires-clause-count
-compute-requires-clause-count g c = c.requires.placeable.count ∙ ap result_count (sym c.requires.lent)
 
 -- the results of the operands that the cells name
 results : (g : Over) (c : In-Ok g) → AreResults
@@ -66,10 +44,6 @@ settled : (g : Over) (c : In-Ok g) → HasSettled Second c.args.due.turn.number 
 settled g c =
     c.in-Ok.ensures.computed.settled c.args.track.now.cells
     (sym (operands_are g (goal.at.In-Ok g c).After-top-operands))
-
-pub overflow_add-held : goal.overflow_add-held
-overflow_add-held g c =
-    omega (arith, c.requires.placeable.room, c.held-held.ensures.value, c.args.job.now.limits.words_in_range)
 
 pub advance_settled-requires : goal.advance_settled-requires
 advance_settled-requires g c =
@@ -102,8 +76,3 @@ returns-in-Ok-clause-after g c = (executed g (goal.at.returns-in-Ok-clause-after
 
 pub returns-in-Ok-clause-others : goal.returns-in-Ok-clause-others
 returns-in-Ok-clause-others g c = (executed g (goal.at.returns-in-Ok-clause-others g c).After-advance_settled).others
-
-pub returns-in-Err-clause-fault : goal.returns-in-Err-clause-fault
-returns-in-Err-clause-fault g c =
-    ap (λ (ids : List ℕ). value_fault c.args.due.placement.op (map (words_at c.args.blocks.now.memory) ids))
-    (sym (operands_are g (goal.at.returns-in-Err-clause-fault g c).After-top-operands)) ∙ c.in-Err.ensures.fault

@@ -1,4 +1,4 @@
-use Rattle.job_slots.proofs.Alone.{alone}
+use Rattle.job_slots.proofs.Shown.{alone}
 use Rattle.job_slots.proofs.laws.shown_is_alone.Goals as goal
 
 pub returns : goal.returns

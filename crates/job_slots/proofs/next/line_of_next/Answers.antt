@@ -1,4 +1,4 @@
-use Rattle.job_slots.proofs.Begins.{can_begin, line_is}
+use Rattle.job_slots.proofs.NextSteps.{can_begin, line_is}
 use Rattle.job_slots.proofs.next.line_of_next.Goals as goal
 
 pub returns : goal.returns

@@ -4,7 +4,7 @@ use Rattle.vcode_base.specs.declared.op.Op.{Op}
 use Rattle.job_steps.specs.Motions.{operand_count, top_entries}
 use Rattle.job_steps.specs.States.{words_of}
 use Rattle.job_slots.specs.InPlace.{is_constant}
-use Rattle.job_slots.proofs.Readings.{of_op, read_on_top}
+use Rattle.job_slots.proofs.NextSteps.{of_op, read_on_top}
 use Rattle.job_slots.proofs.next.next_at.Goals as goal
 
 pub top_operands-requires : goal.top_operands-requires

@@ -1,10 +1,7 @@
-use Rattle.job_slots.proofs.Begins.{can_begin}
+use Rattle.job_slots.proofs.NextSteps.{can_begin}
 use Rattle.job_slots.proofs.next.next_line.Goals as goal
 
 pub line-requires : goal.line-requires
 line-requires g c =
     rw (c.program.ensures.same, c.verified.ensures.same)
     (can_begin c.steps_can_begin.ensures _ _ _ c.requires.running c.requires.verified).active
-
-pub returns : goal.returns
-returns g c = rw (c.program.ensures.same, c.verified.ensures.same) at c.line.ensures.item

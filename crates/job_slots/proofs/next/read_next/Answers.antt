@@ -1,4 +1,4 @@
-use Rattle.job_slots.proofs.Readings.{of_line}
+use Rattle.job_slots.proofs.NextSteps.{of_line}
 use Rattle.job_slots.proofs.next.read_next.Goals as goal
 
 pub operands_of-requires : goal.operands_of-requires

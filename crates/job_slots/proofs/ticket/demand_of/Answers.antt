@@ -1,6 +1,6 @@
 -- The demand that is answered is that of the next instruction, if nothing ends the job before it.
 use Rattle.std.proofs.Common.{◌∙◌}
-use Rattle.job_slots.proofs.EarlyEnds.{demand_is, has_operands, told_is}
+use Rattle.job_slots.proofs.NextSteps.{demand_is, has_operands, told_is}
 use Rattle.job_slots.proofs.ticket.demand_of.Goals as goal
 
 pub held_under-held-requires : goal.held_under-held-requires

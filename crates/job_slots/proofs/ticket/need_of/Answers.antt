@@ -1,5 +1,5 @@
 use Rattle.std.proofs.Common.{◌∙◌}
-use Rattle.job_slots.proofs.EarlyEnds.{need_is}
+use Rattle.job_slots.proofs.NextSteps.{need_is}
 use Rattle.job_slots.proofs.ticket.need_of.Goals as goal
 
 pub returns : goal.returns

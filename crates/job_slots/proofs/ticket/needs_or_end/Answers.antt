@@ -2,7 +2,7 @@
 use Rattle.std.proofs.Common.{◌≡◌, Some, sym, ◌∙◌, ap, arith}
 use Rattle.job_steps.specs.States.{ruled}
 use Rattle.job_steps.specs.Steps.{Ending}
-use Rattle.job_slots.proofs.EarlyEnds.{asks_on, budget_end, ends_with, has_operands, number_is}
+use Rattle.job_slots.proofs.NextSteps.{asks_on, budget_end, ends_with, has_operands, number_is}
 use Rattle.job_slots.proofs.ticket.needs_or_end.Given.{Over}
 use Rattle.job_slots.proofs.ticket.needs_or_end.Goals as goal
 use Rattle.job_slots.proofs.ticket.needs_or_end.Goals.{After-needs_beside}

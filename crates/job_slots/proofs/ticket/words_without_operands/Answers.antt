@@ -5,8 +5,7 @@ use Rattle.job_steps.specs.Motions.{depth_after}
 use Rattle.job_steps.specs.States.{ruled}
 use Rattle.job_steps.specs.Steps.{memory_fault}
 use Rattle.job_slots.specs.Needs.{words_with}
-use Rattle.job_slots.proofs.EarlyEnds.{budget_end}
-use Rattle.job_slots.proofs.NoOperands.{HasWords, has_words}
+use Rattle.job_slots.proofs.NextSteps.{budget_end, HasWords, has_words}
 use Rattle.job_slots.proofs.ticket.words_without_operands.Given.{Over}
 use Rattle.job_slots.proofs.ticket.words_without_operands.Goals as goal
 use Rattle.job_slots.proofs.ticket.words_without_operands.Goals.{After-memory_fault, After-used-used}

@@ -1,7 +1,6 @@
 use Rattle.std.proofs.Common.{◌∙◌, ap}
 use Rattle.job_slots.specs.Slots.{SlotState}
-use Rattle.job_slots.proofs.Committed.{executed_inside, took}
-use Rattle.job_slots.proofs.Started.{is_flying}
+use Rattle.job_slots.proofs.Standings.{executed_inside, took, is_flying}
 use Rattle.job_slots.proofs.slot.Slot.carry_out.Goals as goal
 
 pub execute-requires-clause-flying : goal.execute-requires-clause-flying

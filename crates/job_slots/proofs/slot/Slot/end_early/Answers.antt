@@ -1,5 +1,4 @@
-use Rattle.job_slots.proofs.OneGo.{ends_early}
-use Rattle.job_slots.proofs.Started.{runs_inside}
+use Rattle.job_slots.proofs.Standings.{ends_early, runs_inside}
 use Rattle.job_slots.proofs.slot.Slot.end_early.Goals as goal
 
 pub end_by_step-requires-clause-ends : goal.end_by_step-requires-clause-ends

@@ -1,8 +1,8 @@
 use Rattle.std.proofs.Common.{arith}
-use Rattle.job_slots.proofs.LettingGo.{HasLetGo, own_released, has_let_go}
+use Rattle.job_slots.proofs.Cells.{HasLetGo, own_released, has_let_go}
 use Rattle.job_slots.proofs.slot.Slot.let_go.Given.{Over}
 use Rattle.job_slots.proofs.slot.Slot.let_go.Goals as goal
-use Rattle.job_slots.proofs.slot.Slot.let_go.Goals.{After-cells, After-used-used}
+use Rattle.job_slots.proofs.slot.Slot.let_go.Goals.{After-used-used}
 
 pub release_all-requires-clause-own : goal.release_all-requires-clause-own
 release_all-requires-clause-own g c =

@@ -1,7 +1,7 @@
 -- Each turn of the loop is a step of the job, which is over when the loop ends.
 use Rattle.std.proofs.Common.{◌∙◌, sym}
 use Rattle.job_steps.specs.States.{ruled}
-use Rattle.job_slots.proofs.Running.{HasStepped, has_run, on_next}
+use Rattle.job_slots.proofs.Standings.{HasStepped, has_run, on_next}
 use Rattle.job_slots.proofs.slot.Slot.run.Given.{Over}
 use Rattle.job_slots.proofs.slot.Slot.run.Goals as goal
 use Rattle.job_slots.proofs.slot.Slot.run.Goals.{After-used-used-in-loop-turn}

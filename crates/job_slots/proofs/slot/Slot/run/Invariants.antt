@@ -1,6 +1,6 @@
 use Rattle.std.proofs.Common.{◌≡◌, ◌-◌}
 use Rattle.job_steps.specs.States.{ruled}
-use Rattle.job_slots.proofs.Running.{IsOnRun}
+use Rattle.job_slots.proofs.Standings.{IsOnRun}
 use Rattle.job_slots.proofs.slot.Slot.run.Given as goal
 
 abbrev pub invariant-loop-turn : goal.invariant-loop-turn

@@ -1,17 +1,15 @@
 -- A step with operands is the next step of the job, in place or not, or the job ends.
-use Rattle.std.proofs.Common.{◌≡◌, ℤ, List, take, Some, ap, ◌∙◌}
+use Rattle.std.proofs.Common.{◌≡◌, ℤ, List, take, Some}
 use Rattle.vcode_base.specs.Meaning.{value_fault}
 use Rattle.vcode_base.specs.Operands.{contents}
 use Rattle.job_memory.specs.JobBlocks.{own_slots}
 use Rattle.job_steps.specs.States.{ruled}
 use Rattle.job_steps.specs.Flows.{flow_of}
 use Rattle.job_steps.specs.Tickets.{AreResults, question_by}
-use Rattle.job_slots.specs.InPlace.{is_constant}
 use Rattle.job_slots.specs.Needs.{IsReady}
 use Rattle.job_slots.specs.Slots.{IsRunningSlot}
-use Rattle.job_slots.proofs.EarlyEnds.{is_made}
-use Rattle.job_slots.proofs.Started.{runs_inside}
-use Rattle.job_slots.proofs.OneGo.{ends_early, ends_by_fault}
+use Rattle.job_slots.proofs.NextSteps.{is_made}
+use Rattle.job_slots.proofs.Standings.{runs_inside, ends_early, ends_by_fault}
 use Rattle.job_slots.proofs.slot.Slot.step_as.Given.{Over}
 use Rattle.job_slots.proofs.slot.Slot.step_as.Goals as goal
 use Rattle.job_slots.proofs.slot.Slot.step_as.Goals.{After-of, After-next_at-next, In-Ok}
@@ -20,13 +18,6 @@ running : (g : Over) (c : After-next_at-next g) →
     IsRunningSlot (own_slots c.args.turn.number c.args.blocks.now) (ruled c.args.turn.rule c.args.job.now)
     c.self.inside.track
 running g c = runs_inside _ _ _ _ _ c.self.view_is c.requires.can.shows c.requires.can.live
-
-pub next_at-next-requires-clause-op : goal.next_at-next-requires-clause-op
-next_at-next-requires-clause-op g c =
-    let next = rw (← c.self.view_is) at c.requires.next in λ call outer stands. c.op-op.ensures ∙ next call outer stands
-
-pub placement_of-requires-clause-no_list : goal.placement_of-requires-clause-no_list
-placement_of-requires-clause-no_list g c = ap is_constant c.op-op.ensures ∙ c.requires.no_list
 
 -- ---- the job ends before its operands' values are looked at
 
@@ -49,11 +40,6 @@ flow_is : (g : Over) (c : After-of g) →
     c.of.result ≡ flow_of (question_by c.op-op.result
     (contents (take c.next_at-next.result.operands.count c.next_at-next.result.operands.lists)))
 flow_is g c = rw (← c.as_slice-operands.ensures) c.of.ensures
-
-pub placement_of-requires-clause-ready : goal.placement_of-requires-clause-ready
-placement_of-requires-clause-ready g c =
-    let at = goal.at.placement_of-requires-clause-ready g c in
-    (sources g at.In-Ok, ready g at.In-Ok)
 
 pub fill-requires-clause-can : goal.fill-requires-clause-can
 fill-requires-clause-can g c =

@@ -6,10 +6,8 @@ use Rattle.job_steps.specs.Tickets.{question_by}
 use Rattle.job_slots.specs.Answers.{EndsByStep}
 use Rattle.job_slots.specs.InPlace.{operands_in}
 use Rattle.job_slots.specs.Slots.{SlotState, IsActive}
-use Rattle.job_slots.proofs.Committed.{executed_inside, took}
-use Rattle.job_slots.proofs.OneGo.{ended_by, ends_by_fault}
-use Rattle.job_slots.proofs.Overlaid.{may_end, may_end_still}
-use Rattle.job_slots.proofs.Started.{is_flying, runs}
+use Rattle.job_slots.proofs.Standings.{executed_inside, took, ended_by, ends_by_fault, is_flying, runs}
+use Rattle.job_slots.proofs.InPlace.{may_end, may_end_still}
 use Rattle.job_slots.proofs.slot.Slot.step_in_place.Given.{Over}
 use Rattle.job_slots.proofs.slot.Slot.step_in_place.Goals as goal
 use Rattle.job_slots.proofs.slot.Slot.step_in_place.Goals.{In-Err}
@@ -18,9 +16,6 @@ pub execute_in_place-requires-clause-flying : goal.execute_in_place-requires-cla
 execute_in_place-requires-clause-flying g c =
     let can = c.requires.can in
     rw (← c.self.view_is) at (is_flying _ _ _ _ can.shows can.live can.settled c.requires.goes_on)
-
-pub execute_in_place-requires-clause-placeable : goal.execute_in_place-requires-clause-placeable
-execute_in_place-requires-clause-placeable g c = rw (← c.self.view_is) at c.requires.placeable
 
 -- ---- the instruction is executed
 
