@@ -1,6 +1,7 @@
 -- An admission among a machine's jobs.
-use Rattle.std.proofs.Common.{◌≡◌, ℕ, suc, ◌+◌, ◌-◌, ◌<◌, ◌≤◌, List, [], ◌∷◌, length, map, set, get_or, Some, refl, sym}
-use Rattle.std.proofs.Common.{◌∙◌, ap, arith, Result, Ok, Err, OnOk, ◌↔◌}
+use Rattle.std.proofs.lemmas.Bool.Decides.{nat_tests}
+use Rattle.std.proofs.Common.{rules, ◌≡◌, ℕ, suc, ◌+◌, ◌-◌, ◌<◌, ◌≤◌, List, [], ◌∷◌, length, map, set, get_or, Some}
+use Rattle.std.proofs.Common.{refl, sym, ◌∙◌, ap, arith, Result, OnOk, ◌↔◌}
 use Rattle.std.specs.Arc.{arc_value}
 use Rattle.std.specs.Prelude.{IsErr}
 use Rattle.std.proofs.lemmas.Option.{none-some, same_Some, slice_get_within, slice_get_read}
@@ -8,7 +9,7 @@ use Rattle.vcode_base.specs.declared.rule.Rule.{Rule}
 use Rattle.job_memory.specs.JobBlocks.{JobBlocks}
 use Rattle.job_memory.specs.JobBlocks as jobs
 use Rattle.job_steps.specs.declared.event.Event.TheVariants.{Admit}
-use Rattle.job_steps.specs.EventLaws.{EventsChangeTheirJob, AdmittedHaveRoom, AdmissionsPassOnce, PassesAreFew, HasRoom}
+use Rattle.job_steps.specs.EventLaws.{AdmittedHaveRoom, AdmissionsPassOnce, PassesAreFew, HasRoom}
 use Rattle.job_steps.specs.Events.{after_event, next_standing}
 use Rattle.job_steps.specs.Standings.{Waiting, Live, admission, passes_before}
 use Rattle.job_steps.specs.States.{JobValue, Task, ruled}
@@ -88,21 +89,14 @@ has_next {p} {m} {job} place task slot sound view a place_is task_is slot_is =
     let first = turn_at p job place task slot refl job_is turn.task_at turn.slot_at in
     let same : a.room.task ≡ task = same_Some _ task (sym a.room.task_is ∙ first.shown_task) in
     let stands : standing_of slot ≡ Waiting = same_Some _ Waiting (sym first.shown_standing ∙ a.room.waits) in
-    record {
-      turn = turn;
-      waits = waits_by slot.status slot.trace.executed stands;
-      room = rw (granted_is p.blocks p.tasks p.slots sound, ← same) a.room.room;
-      next = rw job_is at a.next;
-    }
+    grind (arith, nat_tests, waits_by, granted_is)
 
 -- ---- the machine after it
 
 -- a result is good if the words fit
 pub granted_ok : {T E : Type 0} {P : Type 0} {room n : ℕ} (r : Result T E) → (IsErr r ↔ (room < n)) → n ≤ room →
     OnOk r P → P
-granted_ok (Ok x) both fits p = p
-granted_ok {room = room} {n = n} (Err d) both fits p =
-    let past : room < n = both.0 refl in absurd (omega (arith, past, fits))
+granted_ok {room} {n} r both fits p = search (rules)
 
 module _ {p : Parts} {m : MachineState} {job place : ℕ} {task : Task} {before : SlotState}
     (h : HasNext p m job place task before) (once : AdmissionsPassOnce) (late : List ℕ)
@@ -116,10 +110,10 @@ module _ {p : Parts} {m : MachineState} {job place : ℕ} {task : Task} {before 
       sound_passes new p.tasks after p.passes late now (ap length late_is ∙ before_length place _ p.passes)
       (rw passed_are (few _ _ (Admit ∷ []) (queue_by p.slots p.passes) sound.few_passes))
 
-  pub admitted_state : EventsChangeTheirJob → (new : JobBlocks) (after : SlotState) →
+  pub admitted_state : (new : JobBlocks) (after : SlotState) →
       new.memory.room ≡ p.blocks.memory.room → standing_of after ≡ Live 0 →
       shown_machine p.rule new p.tasks (set p.slots place after) late ≡ machine_after Admit m
-  admitted_state changed new after room live =
+  admitted_state new after room live =
       let waiting : standing_of before ≡ Waiting = ap (λ s. standing_by s before.trace.executed) h.waits in
-      turn_to h.turn new after room changed Admit late (h.next ∙ ap (λ k. Some k) (sym h.turn.job_is))
+      turn_to h.turn new after room Admit late (h.next ∙ ap (λ k. Some k) (sym h.turn.job_is))
       (live ∙ sym (ap (λ s. or_same s (next_standing Admit task s)) waiting)) passed_are

@@ -8,7 +8,7 @@ use Rattle.std.proofs.lemmas.List.{length-map, length-replicate}
 use Rattle.std.proofs.lemmas.List.Elements.{All-nil, All-cons, All-map}
 use Rattle.vcode_base.specs.declared.limits.TheConstants.{MOST_JOBS, MOST_PASSES, MOST_WORDS}
 use Rattle.vcode_base.specs.declared.rule.Rule.{Rule}
-use Rattle.refcounts.specs.SharedState.{Slot, empty_slot, words_in, blocks_in}
+use Rattle.refcounts.specs.SharedState.{SharedState, Slot, empty_slot, words_in, blocks_in, block_count, used_words}
 use Rattle.refcounts.specs.Owners.{slot_seen_by}
 use Rattle.job_memory.specs.JobBlocks.{JobBlocks, own_slots}
 use Rattle.job_steps.specs.Standings.{AreFew, Waiting, first_standings}
@@ -36,11 +36,6 @@ no_blocks n = sum_by-replicate (λ (slot : Slot). cond (nat_lt 0 slot.count) 1 0
 sum_to_none : (n : ℕ) (f : ℕ → ℕ) → ((k : ℕ) → f k ≡ 0) → sum_to n f ≡ 0
 sum_to_none zero f none = refl
 sum_to_none (suc n) f none = omega (arith, sum_to_none n f none, none (suc n))
-
--- blocks of jobs without a block and without a grant
-abbrev pub first_blocks : (region most jobs : ℕ) → JobBlocks
-first_blocks region most jobs =
-    record { memory = record { room = region; slots = replicate most empty_slot }; grants = replicate jobs None }
 
 -- each slot is new, and that of the job at its place
 abbrev pub AreNewSlots : List JobValue → List SlotState → Type 0
@@ -78,42 +73,36 @@ pub first_is_sound : NewIsShown → (rule : Rule) (blocks : JobBlocks) (region m
     IsSound blocks (map (ruled rule) jobs) slots (replicate count 0)
 first_is_sound shown rule blocks region most count jobs slots memory grants count_is most_is same few least greatest
     fitting new =
-    let tasks : List Task = map (ruled rule) jobs in
-    let long : length tasks ≡ length jobs = length-map jobs (ruled rule) in
-    let first = first_blocks region most count in
-    let are : first ≡ blocks = λ i. record { memory = sym memory i; grants = sym grants i } in
-    subst (λ (bs : JobBlocks). IsSound bs tasks slots (replicate count 0)) are (record {
-      jobs = length-replicate count None ∙ count_is ∙ sym long;
+    let long = length-map jobs (ruled rule) in
+    let none : (job : ℕ) → own_slots job blocks ≡ replicate most empty_slot =
+    λ job. ap (λ (m : SharedState). map (slot_seen_by job) m.slots) memory ∙ none_seen job most in
+    let room = ap (λ (m : SharedState). m.room) memory in
+    record {
+      jobs = grind (arith, length-replicate);
       slots_are = same ∙ sym long;
-      passes_are = length-replicate {A = ℕ} count 0 ∙ count_is ∙ sym long;
+      passes_are = grind (arith, length-replicate);
       few_passes = none_passed count;
       few = omega (arith, few, long);
-      least = least;
-      most = greatest;
-      fitting = All-map (λ (task : Task). task.limits.words ≤ region) (ruled rule) jobs fitting;
+      least = omega (arith, least, room);
+      most = omega (arith, greatest, room);
+      fitting = rw room (All-map (λ (task : Task). task.limits.words ≤ region) (ruled rule) jobs fitting);
       each =
           (λ place task slot t s.
           let job = job_at rule jobs place task t in
-          let long = length-replicate {A = Option ℕ} count None in
-          subst (λ (k : Task). Shows (suc place) first k slot) job.2
-          (shown rule (suc place) first job.0 slot (new place job.0 slot job.1 s) (
-            omega arith,
-            omega (arith, slice_get_within jobs place job.0 job.1, long, count_is),
-          )
-          (get_replicate count (suc place - 1) None)
-          (λ id.
-          ap (λ (ss : List Slot). get_or ss id empty_slot) (none_seen (suc place) most)
-          ∙ get_replicate most id empty_slot)));
-      numbers = length-replicate most empty_slot ∙ most_is ∙ ap (λ n. n + 2) (sum_cells rule jobs);
+          let at = slice_get_within jobs place job.0 job.1 in
+          let count_none = ap length grants ∙ length-replicate {A = Option ℕ} count None in
+          subst (λ k. Shows (suc place) blocks k slot) job.2 (shown rule (suc place) blocks job.0 slot
+          (new place job.0 slot job.1 s) (omega arith, omega (arith, at, count_none, count_is))
+          (ap (λ gs. get_or gs (suc place - 1) None) grants ∙ get_replicate count (suc place - 1) None)
+          (λ id. ap (λ ss. get_or ss id empty_slot) (none (suc place)) ∙ get_replicate most id empty_slot)));
+      numbers = grind (arith, length-replicate, sum_cells);
       counted =
-          no_blocks most
-          ∙ sym (sum_to_none (length tasks) (λ job. blocks_in (own_slots job first))
-          (λ job. ap blocks_in (none_seen job most) ∙ no_blocks most));
+          ap block_count memory
+          ∙ (no_blocks most ∙ sym (sum_to_none _ _ (λ job. ap blocks_in (none job) ∙ no_blocks most)));
       used =
-          no_words most
-          ∙ sym (sum_to_none (length tasks) (λ job. words_in (own_slots job first))
-          (λ job. ap words_in (none_seen job most) ∙ no_words most));
-    })
+          ap used_words memory
+          ∙ (no_words most ∙ sym (sum_to_none _ _ (λ job. ap words_in (none job) ∙ no_words most)));
+    }
 
 -- jobs whose slots are new wait
 pub all_wait : (rule : Rule) (jobs : List JobValue) (slots : List SlotState) → length slots ≡ length jobs →

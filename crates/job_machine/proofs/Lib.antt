@@ -3,6 +3,7 @@ mod Admitting
 mod FirstSlots
 mod FreshWorkbench
 mod LaneLemmas
+mod Moves
 mod Places
 mod Replaying
 mod Rules

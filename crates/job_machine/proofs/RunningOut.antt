@@ -1,11 +1,11 @@
 -- Events of a machine's jobs, one after another.
-use Rattle.std.proofs.Common.{◌≡◌, ◌⊎◌, ℕ, zero, suc, ◌≤◌, Bool, true, false, List, [], ◌∷◌, ◌++◌, length, map, set}
-use Rattle.std.proofs.Common.{slice_get, All, Option, Some, None, is_some, refl, sym, ◌∙◌, ap, arith}
+use Rattle.std.proofs.lemmas.Bool.Decides.{nat_tests}
+use Rattle.std.proofs.Common.{rules, ◌≡◌, ◌⊎◌, ℕ, zero, suc, ◌≤◌, Bool, true, false, List, [], ◌∷◌, ◌++◌, length, map}
+use Rattle.std.proofs.Common.{set, slice_get, All, Option, Some, None, is_some, refl, sym, ◌∙◌, ap, arith}
 use Rattle.std.proofs.lemmas.Bool.{false≢true}
-use Rattle.std.proofs.lemmas.List.{set-set}
 use Rattle.std.proofs.lemmas.Option.{none-some, same_Some, get_or_from_slice_get, slice_get_within}
 use Rattle.job_steps.specs.declared.event.Event.{Event}
-use Rattle.job_steps.specs.declared.event.Event.TheVariants.{Admit, Begin, Finish, Recall, Collect}
+use Rattle.job_steps.specs.declared.event.Event.TheVariants.{Admit, Recall, Collect}
 use Rattle.job_steps.specs.EventLaws.{EventsGoOn, EventsKeep, EventsUseUp, LeadsJoin, RecallsAreEvents, IsVerified}
 use Rattle.job_steps.specs.EventLaws.{AreKept}
 use Rattle.job_steps.specs.Events.{next_standing, job_of, next_standing_in, next_standing_of, is_open, with_next}
@@ -14,7 +14,7 @@ use Rattle.job_steps.specs.Events.{is_recall, all_events_left}
 use Rattle.job_steps.specs.Standings.{Standing, Collected, Queue, of_job, with_standing, admission}
 use Rattle.job_steps.specs.States.{Task}
 use Rattle.job_machine.specs.declared.machine.Admission.TheVariants.{Admitted}
-use Rattle.job_machine.specs.Machines.{MachineState, queue_of, with_queue, machine_after, recalled, Leads, OthersStand}
+use Rattle.job_machine.specs.Machines.{MachineState, queue_of, with_queue, machine_after, recalled, Leads}
 use Rattle.job_machine.specs.Machines.{HasNoStep, GoesOn, any_waits, IsWaitingOrCollected, IsDone, admission_by}
 use Rattle.job_machine.specs.Machines.{admission_in, is_running}
 use Rattle.job_machine.proofs.Places.{beside_at, get-set_same, get-set_other}
@@ -28,10 +28,6 @@ of_with job standings old new e = grind (arith, none-some, get-set_same)
 pub of_with_other : (job other : ℕ) (standings : List Standing) (new : Standing) → (other ≡ job → ⊥) →
     of_job other (with_standing job new standings) ≡ of_job other standings
 of_with_other job other standings new ne = grind (arith, get-set_other)
-
-pub with_twice : (job : ℕ) (standings : List Standing) (old new : Standing) →
-    with_standing job new (with_standing job old standings) ≡ with_standing job new standings
-with_twice job standings old new = grind (arith, set-set)
 
 -- ---- no step
 
@@ -63,11 +59,6 @@ not_flying standings job s none e = grind (arith, none-some, recalled_here)
 pub leads_one : (event : Event) (m : MachineState) → Leads m (machine_after event m)
 leads_one event m = (refl, refl, (event ∷ [], refl), refl)
 
-pub others_by : (event : Event) (job : ℕ) (m : MachineState) → job_of m.region m.tasks event (queue_of m) ≡ Some job →
-    OthersStand job m (machine_after event m)
-unfolding after_event
-others_by event job m job_is other ne = grind (arith, of_with_other)
-
 pub leads_on : LeadsJoin → (old between new : MachineState) → Leads old between → Leads between new → Leads old new
 leads_on join old between new first second = (
   cc,
@@ -90,23 +81,26 @@ all_kept keep old new verified kept leads = grind arith
 
 -- ---- an event that names its job, by the job's standing
 
--- an event that leaves no step leaves none
-pub no_step_after : (event : Event) (job : ℕ) (m : MachineState) → HasNoStep m →
+-- an event that leaves no step goes on
+pub goes_by : (event : Event) (job : ℕ) (m : MachineState) → HasNoStep m →
     ((task : Task) (old new : Standing) → next_standing event task old ≡ Some new → recalled_standing new ≡ new) →
-    job_of m.region m.tasks event (queue_of m) ≡ Some job → HasNoStep (machine_after event m)
+    job_of m.region m.tasks event (queue_of m) ≡ Some job → GoesOn job m (machine_after event m)
 unfolding after_event
-no_step_after event job m none same job_is = grind (arith, no_step_with)
+goes_by event job m none same job_is = record {
+  leads = leads_one event m;
+  no_step = grind (arith, no_step_with);
+  others = λ other ne. grind (arith, of_with_other);
+}
 
 pub fewer_after : EventsUseUp → (event : Event) (m : MachineState) → All IsVerified m.tasks →
     AreKept m.region m.tasks (queue_of m) → is_recall event ≡ false →
     all_events_left m.tasks (machine_after event m).standings ≤ all_events_left m.tasks m.standings
 unfolding after_event is_open
-fewer_after use_up event m verified kept other =
-    grind (arith, (use_up m.region m.tasks verified event (queue_of m) kept other))
+fewer_after use_up event m verified kept other = search (rules)
 
 -- ---- a collection
 
-collected_stays : (job : ℕ) (task : Task) (old new : Standing) → next_standing (Collect job) task old ≡ Some new →
+pub collected_stays : (job : ℕ) (task : Task) (old new : Standing) → next_standing (Collect job) task old ≡ Some new →
     recalled_standing new ≡ new
 collected_stays job task old new e = grind (arith, none-some, same_Some)
 
@@ -133,13 +127,6 @@ pub done_after : (job : ℕ) (m : MachineState) → length m.standings ≡ lengt
 unfolding after_event
 done_after job m same none live = grind (arith, idle_in, of_with, none-some, same_Some)
 
-pub collects : (job : ℕ) (m : MachineState) → HasNoStep m → GoesOn job m (machine_after (Collect job) m)
-collects job m none = record {
-  leads = leads_one (Collect job) m;
-  no_step = no_step_after (Collect job) job m none (collected_stays job) refl;
-  others = others_by (Collect job) job m refl;
-}
-
 -- ---- an admission
 
 pub admitted : (m : MachineState) (job : ℕ) → admission_in m ≡ Admitted job →
@@ -160,11 +147,6 @@ pub after_none : (m : MachineState) → admission m.region m.tasks (queue_of m) 
 unfolding after_event
 after_none m none = ap (λ o. with_next Admit o (next_standing_of m.tasks Admit m.standings o) (queue_of m)) none
 
-closed_none : (m : MachineState) → admission m.region m.tasks (queue_of m) ≡ None →
-    is_open m.region m.tasks Admit (queue_of m) ≡ false
-unfolding is_open
-closed_none m none = ap (λ o. is_some (next_standing_of m.tasks Admit m.standings o)) none
-
 -- ---- all wait or are collected
 
 pub idle_at : (standings : List Standing) → All IsWaitingOrCollected standings → (job : ℕ) → (s : Standing) →
@@ -175,23 +157,11 @@ closed_by : (event : Event) (task : Task) (s : Standing) → (event ≡ Admit �
     next_standing event task s ≡ None
 closed_by event task s ne idle = grind arith
 
-closed_in : (m : MachineState) (event : Event) (job : ℕ) → All IsWaitingOrCollected m.standings → (event ≡ Admit → ⊥) →
-    is_open m.region m.tasks event (queue_of m) ≡ true → job_of m.region m.tasks event (queue_of m) ≡ Some job → ⊥
-unfolding is_open
-closed_in m event job idle ne can job_is = grind (arith, none-some, closed_by, idle_at, false≢true)
-
-nothing_open : (m : MachineState) → All IsWaitingOrCollected m.standings → admission m.region m.tasks (queue_of m) ≡
-    None → (event : Event) → is_open m.region m.tasks event (queue_of m) ≡ true → ⊥
-nothing_open m idle none Admit can = false≢true (sym (closed_none m none) ∙ can)
-nothing_open m idle none (Begin job) can = closed_in m (Begin job) job idle (λ e. cc) can refl
-nothing_open m idle none (Finish job) can = closed_in m (Finish job) job idle (λ e. cc) can refl
-nothing_open m idle none (Recall job) can = closed_in m (Recall job) job idle (λ e. cc) can refl
-nothing_open m idle none (Collect job) can = closed_in m (Collect job) job idle (λ e. cc) can refl
-
 pub all_by : (m : MachineState) → All IsWaitingOrCollected m.standings → admission m.region m.tasks (queue_of m) ≡ None
     → All (λ standing. standing ≡ Collected) m.standings ⊎ ((event : Event) × (is_recall event ≡ false) × (is_open
     m.region m.tasks event (queue_of m) ≡ true)) → All (λ standing. standing ≡ Collected) m.standings
-all_by m idle none h3 = grind (arith, nothing_open)
+unfolding is_open
+all_by m idle none h3 = grind (arith, nat_tests, false≢true, is_some, none-some, closed_by, idle_at)
 
 -- if none is admitted though no job is under way, all are collected
 pub all_collected : EventsGoOn → (m : MachineState) → All (λ task. task.limits.words ≤ m.region) m.tasks → AreKept

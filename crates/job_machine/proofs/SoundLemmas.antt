@@ -1,26 +1,22 @@
 -- A machine with one slot changed is sound, and has the standings after an event.
+use Rattle.std.proofs.lemmas.Bool.Decides.{nat_tests}
 use Rattle.std.proofs.Common.{◌≡◌, ℕ, zero, suc, ◌+◌, ◌-◌, ◌<◌, ◌≤◌, cond, List, [], ◌∷◌, length, set, get_or}
 use Rattle.std.proofs.Common.{slice_get, Option, Some, None, refl, sym, ◌∙◌, ap, subst, arith, inl, inr, length-set}
 use Rattle.std.proofs.Common.{sum_by, nat_lt, option_map}
 use Rattle.std.proofs.lemmas.Bool.{cases_eq, ltb-true}
-use Rattle.std.proofs.lemmas.List.{map-set}
 use Rattle.std.proofs.lemmas.List.Sums.{sum_by-cons}
 use Rattle.std.proofs.lemmas.Option.{none-some, same_Some, cond_some, slice_get_within, slice_get-map}
 use Rattle.refcounts.specs.SharedState.{Slot, blocks_in, words_in, block_count}
 use Rattle.job_memory.specs.JobBlocks.{JobBlocks, ChangesOnlyOf, own_slots, held_words, words_of}
 use Rattle.job_memory.specs.JobBlocks as jobs
-use Rattle.job_steps.specs.declared.event.Event.{Event}
-use Rattle.job_steps.specs.EventLaws.{ChangesItsJob, EventsChangeTheirJob, ClosedChangeNothing, MissingAreClosed}
-use Rattle.job_steps.specs.Events.{job_of, named_job, after_event, next_standing}
-use Rattle.job_steps.specs.Standings.{Standing, Queue, AreFew, of_job, sum_over, reserved_words, granted_words}
+use Rattle.job_steps.specs.Standings.{Standing, Queue, AreFew, sum_over, reserved_words, granted_words}
 use Rattle.job_steps.specs.States.{Task}
 use Rattle.job_slots.specs.declared.status.Status.{Status}
-use Rattle.job_slots.specs.Answers.{or_same}
 use Rattle.job_slots.specs.Laws.{OthersAreShown}
 use Rattle.job_machine.specs.Machines.{place_of}
 use Rattle.job_slots.specs.Slots.{SlotState, Shows, standing_of, standing_by, grant_by}
 use Rattle.job_machine.specs.Sound.{IsSound, sum_to, standings_of}
-use Rattle.job_machine.proofs.Places.{beside_at, get-set_same, get-set_other, set_back}
+use Rattle.job_machine.proofs.Places.{beside_at, get-set_same, get-set_other}
 
 -- ---- places
 
@@ -36,10 +32,7 @@ place_is count job place e = grind (arith, none-some, cond_some, ltb-true)
 
 sum_to_past : (n j : ℕ) (f g : ℕ → ℕ) → n < j → ((k : ℕ) → (k ≡ j → ⊥) → g k ≡ f k) → sum_to n g ≡ sum_to n f
 sum_to_past zero j f g past same = refl
-sum_to_past (suc n) j f g past same =
-    let rest = sum_to_past n j f g (omega arith) same in
-    let here : g (suc n) ≡ f (suc n) = same (suc n) (λ e. absurd (omega (arith, e))) in
-    omega (arith, rest, here)
+sum_to_past (suc n) j f g past same = grind (arith, nat_tests, sum_to_past n j f g (omega arith) same)
 
 pub sum_to_changed : (n j : ℕ) (f g : ℕ → ℕ) → 1 ≤ j → j ≤ n → ((k : ℕ) → (k ≡ j → ⊥) → g k ≡ f k) →
     sum_to n g + f j ≡ sum_to n f + g j
@@ -63,11 +56,9 @@ pub sum_is : (number : Task → Standing → ℕ) (tasks : List Task) (slots : L
 sum_is number [] slots f same each = refl
 sum_is number (t ∷ ts) [] f same each = absurd (omega (arith, same))
 sum_is number (t ∷ ts) (s ∷ ss) f same each =
-    let shift = sum_to_shift (length ts) f in
-    let here = each 0 t s refl refl in
     let rest = sum_is number ts ss (λ k. f (suc k)) (omega (arith, same))
     (λ place task slot. each (suc place) task slot) in
-    omega (arith, shift, here, rest)
+    grind (arith, nat_tests, sum_to_shift)
 
 -- a sum by the jobs' numbers is at most that of their cells
 pub sum_within : (tasks : List Task) (slots : List SlotState) (f : ℕ → ℕ) → length slots ≡ length tasks →
@@ -164,29 +155,3 @@ standing_at slots place slot at = slice_get-map standing_of slots place ∙ ap (
 
 abbrev pub queue_by : List SlotState → List ℕ → Queue
 queue_by slots passes = record { standings = standings_of slots; passes = passes }
-
-pub after_at : (region : ℕ) (tasks : List Task) (event : Event) (queue : Queue) (place : ℕ) (task : Task)
-    (old : Standing) → ChangesItsJob region tasks event queue (suc place) task old →
-    slice_get queue.standings place ≡ Some old → (o : Option Standing) → next_standing event task old ≡ o →
-    set queue.standings place (or_same old o) ≡ (after_event region tasks event queue).standings
-after_at region tasks event queue place task old changes at o e = grind (arith, set_back)
-
--- a slot in the standing after an event, among the others
-pub stands_after : EventsChangeTheirJob → (region : ℕ) (tasks : List Task) (event : Event) (slots : List SlotState)
-    (passes : List ℕ) (place : ℕ) (task : Task) (old new : SlotState) → job_of region tasks event (queue_by slots
-    passes) ≡ Some (suc place) → slice_get tasks place ≡ Some task → slice_get slots place ≡ Some old → standing_of new
-    ≡ or_same (standing_of old) (next_standing event task (standing_of old)) → standings_of (set slots place new) ≡
-    (after_event region tasks event (queue_by slots passes)).standings
-stands_after laws region tasks event slots passes place task old new job_is at slot_at stands =
-    let here = standing_at slots place old slot_at in
-    map-set standing_of slots place new ∙ ap (set (standings_of slots) place) stands
-    ∙ after_at region tasks event (queue_by slots passes) place task _
-    (laws region tasks event (queue_by slots passes) (suc place) task _ job_is at here) here _ refl
-
--- an event of a job that there isn't changes nothing
-pub missing_after : MissingAreClosed → ClosedChangeNothing → (region : ℕ) (tasks : List Task) (event : Event) (slots :
-    List SlotState) (passes : List ℕ) (job : ℕ) → named_job event ≡ Some job → of_job job (standings_of slots) ≡ None →
-    after_event region tasks event (queue_by slots passes) ≡ queue_by slots passes
-missing_after missing closed region tasks event slots passes job named none =
-    closed region tasks event (queue_by slots passes)
-    (missing region tasks event (queue_by slots passes) job named none)

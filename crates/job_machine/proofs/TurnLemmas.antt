@@ -1,9 +1,9 @@
 -- What a turn of one job makes of what a machine shows.
-use Rattle.std.proofs.Common.{◌≡◌, ℕ, zero, suc, ◌+◌, ◌<◌, ◌≤◌, List, [], ◌∷◌, length, map, set, get_or, slice_get, All}
-use Rattle.std.proofs.Common.{Option, Some, None, refl, sym, ◌∙◌, ap, subst, arith}
+use Rattle.std.proofs.Common.{rules, ◌≡◌, ℕ, zero, suc, ◌+◌, ◌<◌, ◌≤◌, List, [], ◌∷◌, length, map, set, get_or}
+use Rattle.std.proofs.Common.{slice_get, All, Option, Some, None, refl, sym, ◌∙◌, ap, arith}
 use Rattle.std.specs.Arc.{arc_value}
 use Rattle.std.proofs.Math.ListN.{get_or-map}
-use Rattle.std.proofs.lemmas.List.{length-map, set-set, map-set}
+use Rattle.std.proofs.lemmas.List.{length-map, map-set}
 use Rattle.std.proofs.lemmas.Option.{none-some, same_Some, slice_get-get_or, slice_get_read, get_or_from_slice_get}
 use Rattle.std.proofs.lemmas.Option.{slice_get_within, slice_get_past}
 use Rattle.vcode_base.specs.declared.rule.Rule.{Rule}
@@ -12,29 +12,31 @@ use Rattle.refcounts.specs.SharedState as shared
 use Rattle.job_memory.specs.JobBlocks.{JobBlocks, ChangesOnlyOf, own_slots, held_words}
 use Rattle.job_memory.specs.JobBlocks as jobs
 use Rattle.job_steps.specs.declared.event.Event.{Event}
-use Rattle.job_steps.specs.declared.event.Event.TheVariants.{Admit, Begin, Finish, Recall}
-use Rattle.job_steps.specs.EventLaws.{EventsChangeTheirJob, StandsOnRun, IsVerified, AreKept}
+use Rattle.job_steps.specs.declared.event.Event.TheVariants.{Begin, Finish, Recall}
+use Rattle.job_steps.specs.EventLaws.{StandsOnRun, IsVerified, AreKept}
 use Rattle.job_steps.specs.Events.{job_of, named_job, after_event, next_standing}
-use Rattle.job_steps.specs.Standings.{Standing, Live, InFlight, of_job, held_by, used_words}
+use Rattle.job_steps.specs.Runs.{outcome}
+use Rattle.job_steps.specs.Standings.{Standing, Ended, of_job, held_by, used_words}
 use Rattle.job_steps.specs.States.{JobValue, Task, ruled}
-use Rattle.job_steps.specs.Tickets.{Asked}
 use Rattle.job_slots.specs.declared.status.Status.{Status}
 use Rattle.job_slots.specs.declared.answer.Begun.{Begun}
 use Rattle.job_slots.specs.declared.answer.Finished.{Finished}
 use Rattle.job_slots.specs.declared.answer.Stepped.{Stepped}
-use Rattle.job_slots.specs.Answers.{Finishes, StepsLead, or_same, after_stepped, question_at, standing_after_begun}
+use Rattle.job_slots.specs.Answers.{HasRun, or_same, after_stepped, standing_after_begun}
 use Rattle.job_slots.specs.Answers.{standing_after_finished, standing_after_step}
-use Rattle.job_slots.specs.Laws.{OthersAreShown, ShownIsAlone}
+use Rattle.job_slots.specs.Laws.{OthersAreShown, RecalledIsShown, ShownIsAlone}
+use Rattle.job_memory.specs.Laws.{ChangesJoin}
 use Rattle.job_slots.specs.Slots.{HasNumbersOnRun, SlotState, Shows, standing_of, standing_by, recalled_status}
-use Rattle.job_slots.specs.Slots.{status_of}
+use Rattle.job_slots.specs.Slots.{IsReturned, recalled_slot}
 use Rattle.job_machine.specs.declared.machine.Machine.TheInside.{Inside}
-use Rattle.job_machine.specs.Machines.{MachineState, place_of, machine_after, StepsLeadIn, asked_in, is_running}
-use Rattle.job_machine.specs.Machines.{FinishesIn, after_begun, after_finished, after_step}
+use Rattle.job_machine.specs.Machines.{MachineState, place_of, machine_after}
+use Rattle.job_machine.specs.Machines.{HasReturnedIn, HasRunIn, after_begun, after_finished, after_step}
 use Rattle.job_machine.specs.SlotOf.{IsMissing, IsSlotOf}
 use Rattle.job_machine.specs.Sound.{IsSound, standings_of}
-use Rattle.job_machine.specs.TurnLaws.{TurnLaws}
-use Rattle.job_machine.proofs.Places.{beside_at, get-set_same, set_back}
-use Rattle.job_machine.proofs.SoundLemmas.{queue_by, place_is, standing_at, stands_after, missing_after, sound_with}
+use Rattle.job_machine.proofs.Moves.{after_by, moved, moved_back, event_moves, step_moves, run_moves}
+use Rattle.job_machine.proofs.RunningOut.{of_with}
+use Rattle.job_machine.proofs.Places.{beside_at}
+use Rattle.job_machine.proofs.SoundLemmas.{queue_by, place_is, standing_at, sound_with}
 use Rattle.job_machine.proofs.SoundLemmas.{sum_is, sum_within, granted_is}
 use Rattle.std.proofs.lemmas.Bool.{ltb-false}
 
@@ -98,11 +100,7 @@ module _ (p : Parts) {m : MachineState} (job : ℕ) {o : Option ℕ} (sound : Ar
 
   pub has_turn : (place : ℕ) (task : Task) (slot : SlotState) → o ≡ Some place → task ≡ get_or p.tasks place task →
       slot ≡ get_or p.slots place slot → HasTurn p m job place task slot
-  has_turn place task slot some task_is slot_is =
-      let within = within_jobs place some in
-      let is = place_is (length p.tasks) job place (cc (view, o_is, some)) in
-      turn_at p job place task slot view is.job_is (slice_get_read p.tasks _ place task refl within task_is)
-      (slice_get_read p.slots _ place slot refl (omega (arith, within, sound.slots_are)) slot_is)
+  has_turn place task slot some task_is slot_is = search (rules, place_is, standing_at, slice_get_read)
 
   -- the same if the task isn't read
   pub some_turn : (place : ℕ) (slot : SlotState) → o ≡ Some place → slot ≡ get_or p.slots place slot →
@@ -117,8 +115,9 @@ module _ (p : Parts) {m : MachineState} (job : ℕ) {o : Option ℕ} (sound : Ar
   missing none = grind (arith, ltb-false, none-some, slice_get_past, length-map)
 
   -- an event of a job that there isn't
-  pub no_turn : TurnLaws → (event : Event) → named_job event ≡ Some job → o ≡ None → m ≡ machine_after event m
-  no_turn laws event named none = grind (arith, missing_after, missing, shown)
+  pub no_turn : (event : Event) → named_job event ≡ Some job → o ≡ None → m ≡ machine_after event m
+  unfolding after_event
+  no_turn event named none = let gone = missing none in grind arith
 
   pub passed_in : (place count d : ℕ) → o ≡ Some place → count ≡ get_or p.passes place d →
       Some count ≡ of_job job m.passes
@@ -127,28 +126,14 @@ module _ (p : Parts) {m : MachineState} (job : ℕ) {o : Option ℕ} (sound : Ar
   pub passed_missing : o ≡ None → of_job job m.passes ≡ None
   passed_missing none = grind (arith, ltb-false, none-some, slice_get_past)
 
--- the job of a number has the turn in a machine
-abbrev pub TurnOf : {A : Type 0} → Inside A → MachineState → (number place : ℕ) → JobValue → SlotState → Type 0
-TurnOf i m number place job slot = HasTurn (parts i) m number place (ruled i.rule job) slot
-
 -- the job of a number is among the jobs and the slots
 pub record IsLent {A : Type 0} (i : Inside A) (m : MachineState) (number place : ℕ) : Type 0 where
   pub among_jobs : place < length (arc_value i.jobs).items
   pub among_slots : place < length i.slots.items
-  pub turn : (job : JobValue) (slot : SlotState) → job ≡ get_or (arc_value i.jobs).items place job →
-      slot ≡ get_or i.slots.items place slot → TurnOf i m number place job slot
 
 pub is_lent : {A : Type 0} (i : Inside A) {m : MachineState} (number : ℕ) {place : ℕ} {o : Option ℕ} → AreSound (parts
     i) → shown (parts i) ≡ m → o ≡ place_of (length m.tasks) number → o ≡ Some place → IsLent i m number place
-is_lent i number {place} sound view o_is some =
-    let within = within_jobs (parts i) number sound view o_is place some in
-    record {
-      among_jobs = omega (arith, within, length-map (arc_value i.jobs).items (ruled i.rule));
-      among_slots = omega (arith, within, sound.slots_are);
-      turn = λ job slot job_is slot_is.
-          has_turn (parts i) number sound view o_is place (ruled i.rule job) slot some
-          (task_read i.rule (arc_value i.jobs).items place job job_is) slot_is;
-    }
+is_lent i number sound view o_is some = grind (arith, place_is, length-map)
 
 -- ---- one slot, and the blocks of its job
 
@@ -164,114 +149,37 @@ module _ {p : Parts} {m : MachineState} {job place : ℕ} {task : Task} {before 
       (rw h.job_is at shows)
 
   -- the desk has the words of the job
-  pub turn_fits : (words : ℕ) → All (λ task. task.limits.words ≤ words) p.tasks → task.limits.words ≤ words
+  turn_fits : (words : ℕ) → All (λ task. task.limits.words ≤ words) p.tasks → task.limits.words ≤ words
   turn_fits words fits = grind (arith, get_or_from_slice_get, slice_get_within)
-
-  -- ---- answers
-
-  pub finishes_in : (filled : Asked) → job ≡ filled.job → (answer : Finished) → Finishes job task (standing_of before)
-      filled answer → FinishesIn filled (of_job filled.job m.tasks) (of_job filled.job m.standings) answer
-  finishes_in filled same answer finishes = grind arith
-
-  -- what the job of a step asks is what the task that has the turn asks
-  pub own_question : (filled : Asked) → job ≡ filled.job → asked_in m.tasks filled.job filled.step ≡ Some
-      filled.question → question_at task filled.step ≡ Some filled.question
-  own_question filled same own = grind arith
 
   -- ---- what the machine shows then
 
   module _ (new : JobBlocks) (after : SlotState) (room : new.memory.room ≡ p.blocks.memory.room) where
-    -- what the event makes of it, with the passes that the event leaves
-    pub turn_to : EventsChangeTheirJob → (event : Event) (late : List ℕ) → job_of p.blocks.memory.room p.tasks event
+    -- the job stands as its slot does
+    pub turn_moves : turned p new place after ≡ moved m job (standing_of after)
+    turn_moves = grind (arith, map-set)
+
+    -- what an event makes of it
+    pub turn_state : (event : Event) → named_job event ≡ Some job → standing_of after ≡ or_same (standing_of before)
+        (next_standing event task (standing_of before)) → turned p new place after ≡ machine_after event m
+    turn_state event named stands =
+        turn_moves
+        ∙ (ap (moved m job) stands ∙ sym (event_moves event m job task _ named h.shown_task h.shown_standing))
+
+    -- the same, with the passes that the event leaves
+    pub turn_to : (event : Event) (late : List ℕ) → job_of p.blocks.memory.room p.tasks event
         (queue_by p.slots p.passes) ≡ Some job → standing_of after ≡ or_same (standing_of before) (next_standing event
         task (standing_of before)) → late ≡ (after_event p.blocks.memory.room p.tasks event (queue_by p.slots
         p.passes)).passes → shown_machine p.rule new p.tasks (set p.slots place after) late ≡ machine_after event m
-    turn_to changed event late named stands late_is =
-        grind (arith, stands_after, shown_machine, shown, changed, event, stands, late_is)
-
-    -- what it showed
-    pub turn_still : standing_of after ≡ standing_of before → turned p new place after ≡ m
-    turn_still stands = grind (arith, map-set, set_back, standing_at)
-
-    module _ (laws : TurnLaws) where
-      pub turn_state : (event : Event) → (event ≡ Admit → ⊥) → job_of p.blocks.memory.room p.tasks event
-          (queue_by p.slots p.passes) ≡ Some job → standing_of after ≡ or_same (standing_of before)
-          (next_standing event task (standing_of before)) → turned p new place after ≡ machine_after event m
-      turn_state event other named stands = grind (arith, turn_to, queue_by)
-
-      pub begun_state : {A : Type 0} (answer : Begun A) → standing_of after ≡ standing_after_begun answer
-          (standing_of before) (or_same (standing_of before) (next_standing (Begin job) task (standing_of before))) →
-          turned p new place after ≡ after_begun answer m (machine_after (Begin job) m)
-      begun_state answer stands = grind (arith, turn_state, turn_still)
-
-      pub finished_state : (answer : Finished) → standing_of after ≡ standing_after_finished answer (standing_of before)
-          (or_same (standing_of before) (next_standing (Finish job) task (standing_of before))) →
-          turned p new place after ≡ after_finished answer m (machine_after (Finish job) m)
-      finished_state answer stands = grind (arith, turn_state, turn_still)
+    turn_to event late named stands late_is =
+        let here = turn_at p job place task before refl h.job_is h.task_at h.slot_at in
+        let now = after_by p.blocks.memory.room p.tasks event (queue_by p.slots p.passes) job task _ named
+        here.shown_task here.shown_standing in
+        grind (arith, map-set)
 
 pub recalled_stands : (job : ℕ) (task : Task) (s : Status) (n : ℕ) →
     standing_by (recalled_status s) n ≡ or_same (standing_by s n) (next_standing (Recall job) task (standing_by s n))
 recalled_stands job task s n = grind arith
-
--- ---- a run
-
--- the slot of a job as it would be in another standing
-stands_as : Standing → SlotState → SlotState
-stands_as standing slot = record {
-  status = status_of standing;
-  trace = record slot.trace { executed = count_of standing };
-  outcome = slot.outcome;
-}
-  where
-    count_of : Standing → ℕ
-    count_of (Live n) = n
-    count_of (InFlight n) = n
-    count_of standing = 0
-
-stands_so : (standing : Standing) (slot : SlotState) → standing_of (stands_as standing slot) ≡ standing
-unfolding stands_as
-stands_so standing slot = grind arith
-
--- the turn is that of the slot that came in its place
-pub turn_with : {p : Parts} {m : MachineState} {job place : ℕ} {task : Task} {before : SlotState} (new : JobBlocks)
-    (after : SlotState) → HasTurn p m job place task before → {now : MachineState} → turned p new place after ≡ now →
-    HasTurn (record p { blocks = new; slots = set p.slots place after }) now job place task after
-turn_with {p} {m} {job} {place} {task} {before} new after h view =
-    turn_at (record p { blocks = new; slots = set p.slots place after }) job place task after view h.job_is h.task_at
-    (get-set_same p.slots place before after h.slot_at)
-
--- a step in one go is a begin and then a finish of a slot that stands in between
-module _ {p : Parts} {m : MachineState} {job place : ℕ} {task : Task} {before : SlotState}
-    (h : HasTurn p m job place task before) (new : JobBlocks) (after : SlotState)
-    (room : new.memory.room ≡ p.blocks.memory.room) (laws : TurnLaws) where
-  step_state : standing_of after ≡ standing_after_step job task (standing_of before) →
-      turned p new place after ≡ after_step job m
-  step_state stands =
-      let begun = or_same (standing_of before) (next_standing (Begin job) task (standing_of before)) in
-      let mid = stands_as begun before in
-      let so = stands_so begun before in
-      let there = turn_state h p.blocks mid refl laws (Begin job) (λ e. cc) refl so in
-      rw set-set at (turn_state (turn_with p.blocks mid h there) new after room laws (Finish job) (λ e. cc) refl
-      (subst (λ s. standing_of after ≡ or_same s (next_standing (Finish job) task s)) (sym so) stands))
-
-  pub stepped_state : (answer : Stepped) → standing_of after ≡ after_stepped answer (standing_of before)
-      (standing_after_step job task (standing_of before)) → turned p new place after ≡ after_stepped answer m
-      (after_step job m)
-  stepped_state answer stands = grind (arith, step_state, (turn_still h new after room))
-
--- the steps of a job lead the machine to where they lead the job
-pub run_state : (count : ℕ) {p : Parts} {m : MachineState} {job place : ℕ} {task : Task} {before : SlotState} →
-    TurnLaws → HasTurn p m job place task before → (new : JobBlocks) (after : SlotState) →
-    new.memory.room ≡ p.blocks.memory.room → StepsLead count job task (standing_of before) (standing_of after) →
-    StepsLeadIn count job m (turned p new place after)
-run_state zero laws h new after room lead = turn_still h new after room lead
-run_state (suc count) {p} {m} {job} {place} {task} {before} laws h new after room lead =
-    let next = standing_after_step job task (standing_of before) in
-    let mid = stands_as next before in
-    let so = stands_so next before in
-    let rest = run_state count laws (turn_with p.blocks mid h (step_state h p.blocks mid refl laws so)) new after room
-    (subst (λ (s : Standing). StepsLead count job task s (standing_of after)) (sym so) lead.1) in
-    (ap is_running h.shown_standing ∙ lead.0, rw set-set at rest)
 
 -- ---- what a machine keeps
 
@@ -307,13 +215,6 @@ module _ {passes : List ℕ} (alone : ShownIsAlone) (blocks : JobBlocks) (tasks 
       AreKept blocks.memory.room tasks (queue_by slots passes)
   are_kept tidy within = grind (arith, length-map, on_run, granted_is)
 
--- wherever a job leads there are numbers
-pub numbers_on_run : ShownIsAlone → OthersAreShown → {p : Parts} {m : MachineState} {job place : ℕ} {task : Task}
-    {before : SlotState} → HasTurn p m job place task before → AreSound p → HasNumbersOnRun job task p.blocks
-numbers_on_run alone others {p} {m} {job} {place} h sound =
-    λ new slot changes shows tidy. numbers_left alone new p.tasks (set p.slots place slot)
-    (turn_sound h others sound changes shows) tidy
-
 pub all_verified : {passes : List ℕ} (blocks : JobBlocks) (tasks : List Task) (slots : List SlotState) →
     IsSound blocks tasks slots passes → All IsVerified tasks
 all_verified blocks tasks slots sound place d within =
@@ -336,3 +237,101 @@ slot_in alone p job place slot sound tidy view o_is some slot_is =
       peak_is = shown.peak_is;
       outcome_is = shown.outcome_is;
     }
+
+-- ---- a job that was read, with its slot
+
+module _ {A : Type 0} (i : Inside A) {m : MachineState} (number : ℕ) {place : ℕ} {o : Option ℕ} (job : JobValue)
+    (slot : SlotState) (sound : AreSound (parts i)) (view : shown (parts i) ≡ m)
+    (o_is : o ≡ place_of (length m.tasks) number) (some : o ≡ Some place)
+    (job_is : job ≡ get_or (arc_value i.jobs).items place job) (slot_is : slot ≡ get_or i.slots.items place slot) where
+  lent : HasTurn (parts i) m number place (ruled i.rule job) slot
+  lent = has_turn (parts i) number sound view o_is place _ slot some (task_read i.rule _ place job job_is) slot_is
+
+  pub lent_task : of_job number m.tasks ≡ Some (ruled i.rule job)
+  lent_task = lent.shown_task
+
+  pub lent_standing : of_job number m.standings ≡ Some (standing_of slot)
+  lent_standing = lent.shown_standing
+
+  pub lent_returned : (standing_of slot ≡ Ended) × IsReturned (outcome (ruled i.rule job)) → HasReturnedIn m number
+  lent_returned is = record {
+    task = ruled i.rule job;
+    task_is = lent_task;
+    ended = lent_standing ∙ ap (λ s. Some s) is.0;
+    returned = is.1;
+  }
+
+  pub lent_shows : Shows number i.blocks (ruled i.rule job) slot
+  lent_shows = turn_shows lent sound
+
+  pub lent_fits : (words : ℕ) → All (λ task. task.limits.words ≤ words) m.tasks → job.limits.words ≤ words
+  lent_fits words fits = turn_fits lent words (rw (← view) at fits)
+
+  pub lent_numbers : ShownIsAlone → OthersAreShown → HasNumbersOnRun number (ruled i.rule job) i.blocks
+  lent_numbers alone others =
+      λ new slot changes shows tidy. numbers_left alone new _ (set i.slots.items place slot)
+      (turn_sound lent others sound changes shows) tidy
+
+  module _ (new : JobBlocks) (after : SlotState) (changes : ChangesOnlyOf number i.blocks new) where
+    pub lent_sound : OthersAreShown → Shows number new (ruled i.rule job) after →
+        IsSound new (map (ruled i.rule) (arc_value i.jobs).items) (set i.slots.items place after) i.passes.items
+    lent_sound others shows = turn_sound lent others sound changes shows
+
+    pub lent_moved : of_job number (turned (parts i) new place after).standings ≡ Some (standing_of after)
+    lent_moved =
+        ap (λ k. of_job number k.standings) (turn_moves lent new after changes.memory.room)
+        ∙ of_with number m.standings _ _ lent_standing
+
+    pub lent_still : standing_of after ≡ standing_of slot → turned (parts i) new place after ≡ m
+    lent_still stands =
+        let moves = turn_moves lent new after changes.memory.room in
+        grind (arith, moved_back, lent_standing)
+
+    pub lent_event : (event : Event) → named_job event ≡ Some number → standing_of after ≡ or_same (standing_of slot)
+        (next_standing event (ruled i.rule job) (standing_of slot)) →
+        turned (parts i) new place after ≡ machine_after event m
+    lent_event event named stands = turn_state lent new after changes.memory.room event named stands
+
+    pub lent_begun : (answer : Begun A) → standing_of after ≡ standing_after_begun answer (standing_of slot) (or_same
+        (standing_of slot) (next_standing (Begin number) (ruled i.rule job) (standing_of slot))) →
+        turned (parts i) new place after ≡ after_begun answer m (machine_after (Begin number) m)
+    lent_begun answer stands = grind (arith, lent_event, lent_still)
+
+    pub lent_finished : (answer : Finished) → standing_of after ≡ standing_after_finished answer (standing_of slot)
+        (or_same (standing_of slot) (next_standing (Finish number) (ruled i.rule job) (standing_of slot))) →
+        turned (parts i) new place after ≡ after_finished answer m (machine_after (Finish number) m)
+    lent_finished answer stands = grind (arith, lent_event, lent_still)
+
+    pub lent_stepped : (answer : Stepped) → standing_of after ≡ after_stepped answer (standing_of slot)
+        (standing_after_step number (ruled i.rule job) (standing_of slot)) →
+        turned (parts i) new place after ≡ after_stepped answer m (after_step number m)
+    lent_stepped answer stands =
+        let moves = turn_moves lent new after changes.memory.room in
+        grind (arith, step_moves, moved_back, lent_task, lent_standing)
+
+    pub lent_runs : HasRun number (ruled i.rule job) (standing_of slot) (standing_of after) →
+        HasRunIn number m (turned (parts i) new place after)
+    lent_runs ran = (
+      ran.0,
+      rw (turn_moves lent new after changes.memory.room) (run_moves ran.0 number m _ _ _ lent_task lent_standing ran.1),
+    )
+
+-- the same if the task isn't read
+module _ {A : Type 0} (i : Inside A) {m : MachineState} (number : ℕ) {place : ℕ} {o : Option ℕ} (slot : SlotState)
+    (sound : AreSound (parts i)) (view : shown (parts i) ≡ m) (o_is : o ≡ place_of (length m.tasks) number)
+    (some : o ≡ Some place) (slot_is : slot ≡ get_or i.slots.items place slot) where
+  own : (task : Task) × HasTurn (parts i) m number place task slot
+  own = some_turn (parts i) number sound view o_is place slot some slot_is
+
+  pub own_standing : of_job number m.standings ≡ Some (standing_of slot)
+  own_standing = own.1.shown_standing
+
+  module _ (after : SlotState) (after_is : after ≡ recalled_slot slot) where
+    pub recalled_sound : OthersAreShown → ChangesJoin → RecalledIsShown →
+        IsSound i.blocks (map (ruled i.rule) (arc_value i.jobs).items) (set i.slots.items place after) i.passes.items
+    recalled_sound others join recalled = rw after_is (turn_sound own.1 others sound ((join number).none i.blocks)
+        (recalled number i.blocks own.0 slot (turn_shows own.1 sound)))
+
+    pub recalled_state : turned (parts i) i.blocks place after ≡ machine_after (Recall number) m
+    recalled_state = turn_state own.1 i.blocks after refl (Recall number) refl
+        (ap standing_of after_is ∙ recalled_stands number own.0 slot.status slot.trace.executed)

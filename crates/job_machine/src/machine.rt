@@ -437,6 +437,7 @@ impl<A: Allocator> Machine<A> {
 
     /// The words of all vectors that the jobs hold, which are within those that are granted, as these are within the
     /// region.
+    #[tactic(auto, using(crate::proofs::TurnLemmas::used_is, crate::proofs::SoundLemmas::granted_is))]
     pub fn used(&self) -> usize
         ensures used { result ≡ used_words self.now.tasks self.now.standings }
         ensures within { used_words self.now.tasks self.now.standings

@@ -15,6 +15,7 @@ use std::alloc::{AllocError, Allocator};
 
 impl<A: Allocator> Machine<A> {
     /// Gives up all steps that have begun. Each of their jobs is as before its step's begin.
+    #[tactic(auto, using(crate::proofs::RunningOut::all_recalled))]
     pub fn recall_all(&mut self)
         ensures recalled { self.new ≡ recalled self.old }
         ensures leads { Leads self.old self.new }
@@ -34,6 +35,7 @@ impl<A: Allocator + Clone> Machine<A> {
     /// # Errors
     ///
     /// [`AllocError`] if memory for its results was refused. It has ended then, and isn't collected.
+    #[tactic(auto, using(crate::proofs::Stepping::all_run))]
     pub fn run_job(&mut self, job: usize, desk: &mut Desk<A>) -> Result<(), AllocError>
         requires words { All (λ task. task.limits.words ≤ desk.old) self.old.tasks }
         requires no_step { HasNoStep self.old }
@@ -56,7 +58,7 @@ impl<A: Allocator + Clone> Machine<A> {
     }
 
     /// Runs all jobs that don't wait to their ends, and collects them.
-    #[tactic(auto, using(crate::proofs::Turns::words_on))]
+    #[tactic(auto, using(crate::proofs::Turns::words_on, crate::proofs::Turns::to_first, crate::proofs::Turns::all_to))]
     fn run_admitted(&mut self, desk: &mut Desk<A>) -> Result<(), AllocError>
         requires words { All (λ task. task.limits.words ≤ desk.old) self.old.tasks }
         requires no_step { HasNoStep self.old }
@@ -79,6 +81,7 @@ impl<A: Allocator + Clone> Machine<A> {
     }
 
     /// Runs all jobs to their ends and collects them, one after another.
+    #[tactic(auto, using(crate::proofs::Turns::words_on, crate::proofs::Turns::admits))]
     pub(crate) fn run_all(&mut self, desk: &mut Desk<A>) -> Result<(), AllocError>
         requires words { All (λ task. task.limits.words ≤ desk.old) self.old.tasks }
         requires no_step { HasNoStep self.old }

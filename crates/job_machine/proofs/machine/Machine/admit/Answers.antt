@@ -55,9 +55,6 @@ pass_before-requires-clause-within g c =
     let here = admitted_place (next g (goal.at.pass_before-requires-clause-within g c).In-Admitted) in
     omega (arith, here.within, ap length c.as_slice-4.ensures.value, c.self.invariant.slots_are)
 
-pub pass_before-requires-clause-few : goal.pass_before-requires-clause-few
-pass_before-requires-clause-few g c = rw c.as_mut_slice.ensures.value c.self.invariant.few_passes
-
 pub index_mut-slot-requires : goal.index_mut-slot-requires
 index_mut-slot-requires g c =
     let here = admitted_place (next g (goal.at.index_mut-slot-requires g c).In-Admitted) in
@@ -104,6 +101,6 @@ pub returns-clause-state : goal.returns-clause-state
 returns-clause-state g c =
     let at = goal.at.returns-clause-state g c in
     let has = turn g at.After-job_at in
-    admitted_state has c.admission_laws.ensures.passed _ (late g at.After-job_at) c.turn_laws.ensures.changed
+    admitted_state has c.admission_laws.ensures.passed _ (late g at.After-job_at)
     c.admit-granted.new.blocks c.admit-granted.new.self c.admit-granted.ensures.others.memory.room
     (granted_ok c.admit-granted.result c.admit-granted.ensures.not_now has.room c.admit-granted.ensures.admitted)

@@ -1,12 +1,6 @@
-use Rattle.std.proofs.lemmas.Bool.{false≢true}
 use Rattle.job_machine.proofs.LaneLemmas.{adopts}
 use Rattle.job_machine.proofs.TurnLemmas.{parts}
 use Rattle.job_machine.proofs.machine.Machine.adopt.Goals as goal
-
-pub returns-in_default-clause-answer : goal.returns-in_default-clause-answer
-returns-in_default-clause-answer g c =
-    let none = rw c.in_default.is at c.place_for.ensures.none in
-    (λ f. absurd (false≢true f), λ can. absurd (none can))
 
 pub invariant_of-self : goal.invariant_of-self
 invariant_of-self g c =

@@ -4,7 +4,7 @@ use Rattle.job_machine.proofs.Replaying.{leads_by}
 use Rattle.job_machine.proofs.machine.Machine.play.Goals as goal
 
 pub returns-in-Admit-clause-fit : goal.returns-in-Admit-clause-fit
-returns-in-Admit-clause-fit g c = fit_admitted c.others_stay.ensures _ _ _ c.requires c.admit.ensures.state
+returns-in-Admit-clause-fit g c = fit_admitted _ _ _ c.requires c.admit.ensures.state
 
 pub returns-in-Admit-clause-leads : goal.returns-in-Admit-clause-leads
 returns-in-Admit-clause-leads g c = leads_by Admit _ _ c.admit.ensures.state
@@ -20,7 +20,7 @@ returns-in-Recall-clause-leads g c = leads_by (Recall c.in-Recall.job) _ _ c.pla
 
 pub returns-in_ok-collect-in-Collect-clause-fit : goal.returns-in_ok-collect-in-Collect-clause-fit
 returns-in_ok-collect-in-Collect-clause-fit g c =
-    fit_collected c.others_stay.ensures _ _ _ c.in-Collect.job c.requires c.in_ok-collect-in-Collect.ensures.state
+    fit_collected _ _ _ c.in-Collect.job c.requires c.in_ok-collect-in-Collect.ensures.state
 
 pub returns-in_ok-collect-in-Collect-clause-leads : goal.returns-in_ok-collect-in-Collect-clause-leads
 returns-in_ok-collect-in-Collect-clause-leads g c =

@@ -1,32 +1,21 @@
 -- As long as a job is admitted, it runs to its end, which leaves fewer events; when none is, all are collected.
 use Rattle.std.proofs.Common.{sym, ◌∙◌, arith}
-use Rattle.job_steps.specs.Standings.{of_job}
-use Rattle.job_machine.specs.Machines.{IsDone}
-use Rattle.job_machine.proofs.Turns.{Admits, admits, turns, turn_leads, out, words_on}
+use Rattle.job_machine.proofs.RunningOut.{goes_on_on, leads_on}
+use Rattle.job_machine.proofs.Turns.{Admits, admits, idle_to, out, runs_on}
 use Rattle.job_machine.proofs.machine.Machine.run_all.Given.{Over}
 use Rattle.job_machine.proofs.machine.Machine.run_all.Goals as goal
 use Rattle.job_machine.proofs.machine.Machine.run_all.Goals.{In-Admitted}
 
-pub loop-job-init : goal.loop-job-init
-loop-job-init g c = (
-  record {
-    leads = c.run_admitted-ran.ensures.leads;
-    no_step = c.run_admitted-ran.ensures.no_step;
-    idle = rw c.in_default.is at c.run_admitted-ran.ensures.ok;
-  },
-  c.run_admitted-ran.ensures.desk,
-)
-
 held : (g : Over) (c : goal.In-Admitted g) → Admits c.in-Admitted.job c.loop-job.self c.admit.new.self
 held g c =
-    admits c.admitted_have_room.ensures c.events_keep.ensures c.events_use_up.ensures c.in-Admitted.job _ _ _
+    admits c.admitted_have_room.ensures c.events_keep.ensures c.events_use_up.ensures c.in-Admitted.job _ _ _ _
     c.jobs-jobs.ensures.verified c.jobs-jobs.ensures.kept c.loop-job.invariant.0 (sym c.in-Admitted.ensures.answer)
     c.in-Admitted.ensures.state
 
-pub run_job-ran-requires-clause-words : goal.run_job-ran-requires-clause-words
-run_job-ran-requires-clause-words g c =
-    rw c.loop-job.invariant.1 (words_on _ _ _ (held g (goal.at.run_job-ran-requires-clause-words
-    g c).In-Admitted).goes_on.leads (words_on _ _ _ c.loop-job.invariant.0.leads c.requires.words))
+pub loop-job-init : goal.loop-job-init
+loop-job-init g c =
+    let ran = c.run_admitted-ran.ensures in
+    (idle_to _ _ _ ran.leads ran.no_step (rw c.in_default.is at ran.ok), ran.desk)
 
 pub run_job-ran-requires-clause-no_step : goal.run_job-ran-requires-clause-no_step
 run_job-ran-requires-clause-no_step g c =
@@ -34,8 +23,9 @@ run_job-ran-requires-clause-no_step g c =
 
 pub returns-in-Err-ran-clause-leads : goal.returns-in-Err-ran-clause-leads
 returns-in-Err-ran-clause-leads g c =
-    turn_leads c.leads_join.ensures c.in-Admitted.job _ _ _ _ c.loop-job.invariant.0.leads
-    (held g (goal.at.returns-in-Err-ran-clause-leads g c).In-Admitted) c.run_job-ran.ensures.goes_on
+    let held = held g (goal.at.returns-in-Err-ran-clause-leads g c).In-Admitted in
+    leads_on c.leads_join.ensures _ _ _ (leads_on c.leads_join.ensures _ _ _ c.loop-job.invariant.0.leads
+    held.goes_on.leads) c.run_job-ran.ensures.goes_on.leads
 
 pub loop-job-smaller : goal.loop-job-smaller
 loop-job-smaller g c =
@@ -43,11 +33,10 @@ loop-job-smaller g c =
 
 pub loop-job-preserved : goal.loop-job-preserved
 loop-job-preserved g c =
-    let done : IsDone (of_job c.in-Admitted.job c.run_job-ran.new.self.standings) =
-    rw c.in_default-ran.is at c.run_job-ran.ensures.ok in (
-      turns c.leads_join.ensures c.in-Admitted.job _ _ _ _ c.loop-job.invariant.0 (held g (goal.at.loop-job-preserved
-          g c).In-Admitted)
-          c.run_job-ran.ensures.goes_on done,
+    let held = held g (goal.at.loop-job-preserved g c).In-Admitted in
+    let goes = goes_on_on c.leads_join.ensures c.in-Admitted.job _ _ _ held.goes_on c.run_job-ran.ensures.goes_on in (
+      runs_on c.leads_join.ensures c.in-Admitted.job _ _ _ _ _ c.loop-job.invariant.0 goes
+          (rw c.in_default-ran.is at c.run_job-ran.ensures.ok) (λ k within apart. within),
       c.run_job-ran.ensures.desk ∙ c.loop-job.invariant.1,
     )
 

@@ -20,12 +20,3 @@ returns-in-Ok g c =
       refused = tt;
       desk = c.take_steps.ensures.desk;
     }
-
--- nothing changes if the collection is refused
-pub returns-in-Err-clause-goes_on : goal.returns-in-Err-clause-goes_on
-returns-in-Err-clause-goes_on g c =
-    rw c.in-Err.ensures.unchanged (runs g (goal.at.returns-in-Err-clause-goes_on g c).After-take_steps).goes_on
-
-pub returns-in-Err-clause-no_more : goal.returns-in-Err-clause-no_more
-returns-in-Err-clause-no_more g c =
-    rw c.in-Err.ensures.unchanged (runs g (goal.at.returns-in-Err-clause-no_more g c).After-take_steps).no_more
