@@ -174,6 +174,7 @@ impl<A: Allocator> Run<A> {
     /// If the instruction's operands don't fit one another, these are only the words that it holds. If they are more
     /// than the greatest `u64`, they are answered as that.
     #[inline(always)]
+    #[tactic(auto, using(crate::proofs::Moved::demand_moved, crate::proofs::Moved::told_moved))]
     pub fn demand(&self) -> usize
         ensures executed { executed_count_in (progress_from self.now.task (progress_of self.now))
             ≡ executed_count_in (progress_of self.now) + 1
@@ -187,6 +188,7 @@ impl<A: Allocator> Run<A> {
     }
 
     /// The same, found from the operands of the instruction, whatever it is.
+    #[tactic(auto, using(crate::proofs::Shown::no_demand))]
     fn read_demand(&self) -> usize
         ensures executed { executed_count_in (progress_from self.now.task (progress_of self.now))
             ≡ executed_count_in (progress_of self.now) + 1
@@ -209,6 +211,7 @@ impl<A: Allocator> Run<A> {
     ///
     /// They are also 0 if the instruction's operands don't fit one another. If they are more than the greatest `u64`,
     /// they are answered as that.
+    #[tactic(auto, using(crate::proofs::Shown::no_need))]
     pub fn need(&self) -> usize
         ensures { result ≡ told_need_in (progress_of self.now) }
     {
@@ -265,6 +268,7 @@ impl<A: Allocator> Run<A> {
     /// one and the job goes on. Entries at one state have one number if they are copies of one another, and else
     /// others. A run that is made anew has the same numbers.
     #[inline(always)]
+    #[tactic(auto, using(crate::proofs::Shown::no_cells))]
     pub fn block(&self, depth: usize) -> Option<usize>
         ensures { MatchOption result (cells_in (progress_of self.now) ≤ depth)
             (λ _. depth < cells_in (progress_of self.now)) }

@@ -46,6 +46,7 @@ impl<A: Allocator> Model for Uses<A> {
 
 impl<A: Allocator + Clone> Uses<A> {
     /// A job that hasn't executed anything. Takes memory for the run, and an error means that the allocator refused it.
+    #[tactic(auto, using(crate::proofs::Used::first_uses))]
     pub fn new(alloc: A, rule: Rule, job: Job<A>) -> Result<Uses<A>, AllocError>
         ensures { IfOk result (λ uses. uses ≡ first_run (ruled rule job)) }
     {
@@ -84,6 +85,7 @@ impl<A: Allocator> Uses<A> {
     }
 
     /// Executes this many instructions, or all that are left before the end of the job. Takes no memory.
+    #[tactic(auto, using(crate::proofs::Gone::first_gone, crate::proofs::Gone::gone_by))]
     pub fn go_on(&mut self, count: u64)
         ensures { HasGoneOn count self.old self.new }
     {

@@ -1,6 +1,4 @@
-use Rattle.std.proofs.Common.{sym, ◌∙◌}
-use Rattle.job_profile.specs.Walks.{progress_of}
-use Rattle.job_profile.proofs.Shown.{demand_at, nothing, told_at}
+use Rattle.job_profile.proofs.Shown.{demand_at, told_at}
 use Rattle.job_profile.proofs.run.Run.read_demand.Goals as goal
 
 pub returns-then-goes_on-clause-executed : goal.returns-then-goes_on-clause-executed
@@ -11,8 +9,3 @@ returns-then-goes_on-clause-executed g c =
 pub returns-then-goes_on-clause-told : goal.returns-then-goes_on-clause-told
 returns-then-goes_on-clause-told g c =
     told_at c.self.invariant c.self.view_is c.goes_on.ensures c.if-goes_on.true c.demand.ensures.told
-
-pub returns-else-goes_on-clause-told : goal.returns-else-goes_on-clause-told
-returns-else-goes_on-clause-told g c =
-    let self = c.args.self.now in
-    (nothing self.task.rule (progress_of self) (sym c.goes_on.ensures ∙ c.if-goes_on.false)).demand

@@ -1,15 +1,12 @@
 use Rattle.std.proofs.Common.{ℕ, ℤ, List, Some, sym, ◌∙◌, ap}
 use Rattle.refcounts.specs.SharedState.{IsLive}
-use Rattle.job_steps.specs.States.{ruled}
 use Rattle.job_profile.proofs.Shown.{all_at, list_at}
 use Rattle.job_profile.proofs.run.Run.words.Goals as goal
 
 pub words-requires : goal.words-requires
 words-requires g c =
-    let task = ruled c.self.inside.rule c.self.inside.job in
-    all_at (λ (i : ℕ). IsLive c.self.inside.blocks.memory i) c.self.inside.slot.trace.cells c.args.depth c.in_ok-id.id
-    (c.shown_are_live.ensures 1 c.self.inside.blocks task c.self.inside.slot c.self.invariant.shows)
-    (sym c.cell.ensures ∙ c.in_ok-id.was)
+    all_at (λ (i : ℕ). IsLive c.self.inside.blocks.memory i) c.self.inside.slot.trace.cells c.args.depth _
+    (c.shown_are_live.ensures 1 _ _ _ c.self.invariant.shows) (sym c.cell.ensures ∙ c.in_ok-id.was)
 
 pub returns : goal.returns
 returns g c =

@@ -6,19 +6,20 @@ use Rattle.job_profile.proofs.strip.Strip.add.Goals as goal
 
 pub returns-then-self-gt0-clause-strip : goal.returns-then-self-gt0-clause-strip
 returns-then-self-gt0-clause-strip g c = λ of n s is.
-    rw (c.widen.ensures.columns, c.widen.ensures.each, c.widen.ensures.room, is) (widened s c.if-self-gt0.true)
+    let now = c.args.self.now in
+    let some = some_columns n (length now.columns.items) now.each now.room s.shape c.if-self-gt0.true in
+    rw (c.widen.ensures.columns, c.widen.ensures.each, c.widen.ensures.room, is)
+    (widened s (length now.columns.items - 1) (omega (arith, some)) c.if-self-gt0.true)
 
 pub returns-then-self-gt0-clause-fine : goal.returns-then-self-gt0-clause-fine
 returns-then-self-gt0-clause-fine g c = λ of n s. rw c.widen.ensures.each s.fine
 
 pub returns-then-self-gt0-clause-highest : goal.returns-then-self-gt0-clause-highest
 returns-then-self-gt0-clause-highest g c =
-    let cs = c.args.self.now.columns.items in
-    ap highest c.widen.ensures.columns ∙ highest_set cs (length cs - 1) c.args.next
-    (omega (
-      arith,
-      some_columns c.requires.0 (length cs) c.args.self.now.each c.args.self.now.room c.requires.1 c.if-self-gt0.true,
-    ))
+    let now = c.args.self.now in
+    let cs = now.columns.items in
+    let some = some_columns c.requires.0 (length cs) now.each now.room c.requires.1 c.if-self-gt0.true in
+    ap highest c.widen.ensures.columns ∙ highest_set cs (length cs - 1) c.args.next (omega (arith, some))
 
 pub returns-clause-strip : goal.returns-clause-strip
 returns-clause-strip g c = λ of n s is.

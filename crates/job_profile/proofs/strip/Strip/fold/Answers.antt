@@ -5,6 +5,4 @@ use Rattle.job_profile.proofs.strip.Strip.fold.Goals as goal
 
 pub returns-clause-columns : goal.returns-clause-columns
 returns-clause-columns g c =
-    c.truncate.ensures.items
-    ∙ first_half c.args.self.now.columns.items c.join_pairs.new.columns.items (MOST_COLUMNS / 2)
-    (omega (arith, c.requires.full)) c.join_pairs.ensures.joined
+    c.truncate.ensures.items ∙ first_half _ _ (MOST_COLUMNS / 2) (omega arith) c.join_pairs.ensures.joined

@@ -11,25 +11,7 @@ invariant_of-result g c =
     let back =
     returned_by c.used_are_least.ensures c.reached.ensures r c.self.invariant
     (sym c.ending.ensures ∙ ap option_copied found.is) (found.field-0-0, found.field-0-is) in
-    record {
-      words_in_range =
-          omega (arith, c.peak.ensures, back.words_are, back.enough.words, limits.words_in_range);
-      cells_in_range = (
-        omega (arith, c.max.ensures),
-        omega (
-          arith,
-          c.max.ensures,
-          back.cells_are,
-          back.enough.cells,
-          limits.cells_in_range.0,
-          limits.cells_in_range.1,
-        ),
-      );
-      calls_in_range =
-          (back.some_call, omega (arith, back.calls_are, back.enough.calls, limits.calls_in_range.1));
-      budget_in_range =
-          omega (arith, c.executed.ensures, back.budget_is, back.enough.budget, limits.budget_in_range);
-    }
+    grind (arith, c.peak.ensures, c.max.ensures, c.executed.ensures)
 
 pub returns-in-Some-Returned : goal.returns-in-Some-Returned
 returns-in-Some-Returned g c =
