@@ -1,103 +1,52 @@
 -- What a motion makes of entries that are kept from the bottom up.
-use Rattle.std.proofs.Common.{◌≡◌, ℕ, ◌+◌, ◌-◌, ◌≤◌, List, ◌++◌, length, take, drop, sym, ◌∙◌, ap, arith}
-use Rattle.std.proofs.Common.{append_assoc, length-append, length-drop, length-take-le}
+use Rattle.std.proofs.Common.{◌≡◌, ℕ, ◌+◌, ◌-◌, ◌≤◌, List, ◌++◌, length, take, drop, ap, ◌∙◌, arith}
+use Rattle.std.proofs.Common.{append_assoc, length-append, length-drop, drop-drop}
 use Rattle.std.specs.Prelude.{reverse}
-use Rattle.std.proofs.lemmas.List.{reverse-append, reverse-reverse, length-reverse, take-append-drop, take_at, drop_at}
+use Rattle.std.proofs.lemmas.List.{drop-take, get_or-drop, get_or-reverse, get_or-take, length-reverse, length-take}
+use Rattle.std.proofs.lemmas.List.{reverse-append, reverse-reverse, same_lists, take-append-drop, take-take, take_at}
 use Rattle.vcode_base.specs.declared.op.StackMove.{StackMove}
-use Rattle.vcode_base.specs.declared.op.StackMove.TheVariants.{Copy, Pop, MoveToTop}
 use Rattle.vcode_base.specs.Motions.{entries_after_move}
-use Rattle.job_steps.specs.Motions.{top_entries, stack_after_move}
+use Rattle.job_steps.specs.Motions.{stack_after_move}
 
--- in three parts from the bottom up
-module _ {E : Type 0} (base low up : List E) where
-  in_parts : reverse (base ++ (low ++ up)) ≡ reverse up ++ (reverse low ++ reverse base)
-  in_parts =
-      reverse-append base (low ++ up)
-      ∙ (ap (λ xs. xs ++ reverse base) (reverse-append low up)
-      ∙ append_assoc (reverse up) (reverse low) (reverse base))
+-- what is taken off at the head goes at the end of the list in reverse
+pub drop-reverse : {E : Type 0} (n : ℕ) (xs : List E) → drop n (reverse xs) ≡ reverse (take (length xs - n) xs)
+drop-reverse n xs = same_lists _ _ (grind (arith, length-reverse, length-drop, length-take))
+    (λ k d lt. grind (arith, get_or-reverse, get_or-drop, get_or-take, length-reverse, length-drop, length-take))
 
-  under : drop (length up) (reverse (base ++ (low ++ up))) ≡ reverse low ++ reverse base
-  under = ap (drop (length up)) in_parts
-      ∙ drop_at (reverse up) (reverse low ++ reverse base) (length up) (length-reverse up)
+take-reverse : {E : Type 0} (n : ℕ) (xs : List E) → take n (reverse xs) ≡ reverse (drop (length xs - n) xs)
+take-reverse n xs = same_lists _ _ (grind (arith, length-reverse, length-drop, length-take))
+    (λ k d lt. grind (arith, get_or-reverse, get_or-drop, get_or-take, length-reverse, length-drop, length-take))
 
-  uppers : top_entries (length up) (reverse (base ++ (low ++ up))) ≡ up
-  uppers = ap (top_entries (length up)) in_parts
-      ∙ (ap reverse (take_at (reverse up) (reverse low ++ reverse base) (length up) (length-reverse up))
-      ∙ reverse-reverse up)
+ruleset cuts = (drop-reverse, take-reverse, reverse-append, reverse-reverse, length-reverse, length-take, length-drop)
 
-  lowers : top_entries (length low) (drop (length up) (reverse (base ++ (low ++ up)))) ≡ low
-  lowers = ap (top_entries (length low)) under
-      ∙ (ap reverse (take_at (reverse low) (reverse base) (length low) (length-reverse low)) ∙ reverse-reverse low)
+-- of the entries that lie on those below a motion's, the lower ones and the upper ones are moved
+module _ {E : Type 0} (xs : List E) (lower upper : ℕ) where
+  abbrev pub rest : ℕ → List E
+  rest depth = drop (depth - (lower + upper)) xs
 
-  rest : drop (length low) (drop (length up) (reverse (base ++ (low ++ up)))) ≡ reverse base
-  rest = ap (drop (length low)) under ∙ drop_at (reverse low) (reverse base) (length low) (length-reverse low)
-
-  moved : (motion : StackMove) → reverse (base ++ entries_after_move motion low up)
-      ≡ stack_after_move motion (length low) (length up) (reverse (base ++ (low ++ up)))
-  moved motion =
-      reverse-append base (entries_after_move motion low up)
-      ∙ sym (ap (λ xs. reverse (entries_after_move motion xs (top_entries (length up) (reverse (base ++ (low ++ up)))))
-      ++ drop (length low) (drop (length up) (reverse (base ++ (low ++ up))))) lowers
-      ∙ (ap (λ xs. reverse (entries_after_move motion low xs)
-      ++ drop (length low) (drop (length up) (reverse (base ++ (low ++ up))))) uppers
-      ∙ ap (λ xs. reverse (entries_after_move motion low up) ++ xs) rest))
-
--- the entries that lie on those below a motion's, the lower ones and the upper ones
-module _ {E : Type 0} (xs : List E) (lower upper : ℕ) (there : lower + upper ≤ length xs) where
-  abbrev below : ℕ
-  below = length xs - (lower + upper)
-
-  abbrev tail : List E
-  tail = drop below xs
-
-  long_tail : length tail ≡ lower + upper
-  long_tail = omega (arith, length-drop below xs)
-
-  abbrev low : List E
-  low = take lower tail
-
-  abbrev up : List E
-  up = drop lower tail
-
-  long_low : length low ≡ lower
-  long_low = omega (arith, length-take-le lower tail, long_tail)
-
-  long_up : length up ≡ upper
-  long_up = omega (arith, length-drop lower tail, long_tail)
-
-  in_three : xs ≡ take below xs ++ (low ++ up)
-  in_three = sym (ap (λ ys. take below xs ++ ys) (take-append-drop lower tail) ∙ take-append-drop below xs)
-
-  moved_by : (motion : StackMove) → reverse (take below xs ++ entries_after_move motion low up)
+  moved : (motion : StackMove) → lower + upper ≤ length xs → reverse (take (length xs - (lower + upper)) xs
+      ++ entries_after_move motion (take lower (rest (length xs))) (drop lower (rest (length xs))))
       ≡ stack_after_move motion lower upper (reverse xs)
-  moved_by motion =
-      moved (take below xs) low up motion
-      ∙ (ap (λ n. stack_after_move motion n (length up) (reverse (take below xs ++ (low ++ up)))) long_low
-      ∙ (ap (λ n. stack_after_move motion lower n (reverse (take below xs ++ (low ++ up)))) long_up
-      ∙ ap (λ ys. stack_after_move motion lower upper (reverse ys)) (sym in_three)))
+  moved motion there = grind (arith, cuts, drop-drop, take-take, drop-take)
+
+  pub shifted : (ys : List E) (depth : ℕ) (motion : StackMove) → lower + upper ≤ length xs → depth ≡ length xs →
+      ys ≡ take (depth - (lower + upper)) xs
+      ++ entries_after_move motion (take lower (rest depth)) (drop lower (rest depth)) →
+      reverse ys ≡ stack_after_move motion lower upper (reverse xs)
+  shifted ys depth motion there long is = ap reverse is ∙ rw long (moved motion there)
 
   -- the lower ones once more after all
-  pub copied : (ys : List E) → ys ≡ xs ++ take lower (drop below xs) →
-      reverse ys ≡ stack_after_move Copy lower upper (reverse xs)
-  copied ys is =
-      ap reverse (is
-      ∙ (ap (λ zs. zs ++ low) in_three
-      ∙ (append_assoc (take below xs) (low ++ up) low
-      ∙ ap (λ zs. take below xs ++ zs) (append_assoc low up low))))
-      ∙ moved_by Copy
+  pub copied : (ys : List E) (n : ℕ) → ys ≡ xs ++ take lower (drop n xs) →
+      ys ≡ take n xs ++ (take lower (drop n xs) ++ (drop lower (drop n xs) ++ take lower (drop n xs)))
+  copied ys n is =
+      let whole : take n xs ++ (take lower (drop n xs) ++ drop lower (drop n xs)) ≡ xs = simp take-append-drop in
+      let all = append_assoc (take n xs) (take lower (drop n xs) ++ drop lower (drop n xs)) (take lower (drop n xs)) in
+      let high = append_assoc (take lower (drop n xs)) (drop lower (drop n xs)) (take lower (drop n xs)) in
+      cc
 
-  -- the lower ones after the others
-  pub turned : (ys : List E) → ys ≡ take below xs ++ (drop lower (drop below xs) ++ take lower (drop below xs)) →
-      reverse ys ≡ stack_after_move MoveToTop lower upper (reverse xs)
-  turned ys is = ap reverse is ∙ moved_by MoveToTop
-
-  -- and then without them
-  pub removed : (ys zs : List E) → ys ≡ take below xs ++ (drop lower (drop below xs) ++ take lower (drop below xs)) →
-      zs ≡ take (length xs - lower) ys → reverse zs ≡ stack_after_move Pop lower upper (reverse xs)
-  removed ys zs is cut =
-      ap reverse (cut ∙ ap (take (length xs - lower)) (is ∙ sym (append_assoc (take below xs) up low))
-      ∙ take_at (take below xs ++ up) low (length xs - lower) long)
-      ∙ moved_by Pop
-    where
-      long : length (take below xs ++ up) ≡ length xs - lower
-      long = simp length-append (omega (arith, length-take-le below xs, long_up))
+  -- the lower ones after the others, and then without them
+  pub removed : (ys zs : List E) (depth : ℕ) → lower + upper ≤ length xs → depth ≡ length xs →
+      ys ≡ take (depth - (lower + upper)) xs ++ (drop lower (rest depth) ++ take lower (rest depth)) →
+      zs ≡ take (depth - lower) ys → zs ≡ take (depth - (lower + upper)) xs ++ drop lower (rest depth)
+  removed ys zs depth there long is cut =
+      grind (arith, append_assoc, take_at, length-append, length-take, length-drop)

@@ -55,7 +55,8 @@ impl<A: Allocator> Window<A> {
     }
 
     /// The most words of all states that are kept on the way to the state of this number. It is twice the room, since
-    /// later states may be smaller. A short run has fewer, so that its states take not much longer to keep than to make.
+    /// later states may be smaller. A short run has fewer, so that its states take not much longer to keep than to
+    /// make.
     fn words_until(&self, number: u64) -> usize {
         let words = MOST_WORDS.saturating_mul(number as usize);
         self.room.saturating_mul(2).min(words)

@@ -1,9 +1,10 @@
-use Rattle.std.proofs.Common.{get_or, sym, ◌∙◌, ap}
-use Rattle.job_history.proofs.Mirrors.{copied_more, none_copied}
+use Rattle.std.proofs.Common.{get_or, sym, ◌∙◌, ap, arith}
+use Rattle.std.proofs.lemmas.List.{append-nil}
+use Rattle.job_history.proofs.Mirrors.{copied_more}
 use Rattle.job_history.proofs.mirror.copy_lower.Goals as goal
 
 pub loop-place-init : goal.loop-place-init
-loop-place-init g c = none_copied c.args.entries.now.items c.args.below
+loop-place-init g c = grind (arith, append-nil)
 
 pub loop-place-preserved : goal.loop-place-preserved
 loop-place-preserved g c =

@@ -1,36 +1,23 @@
-use Rattle.std.proofs.Common.{◌≡◌, ◌+◌, ◌-◌, ◌++◌, drop, length, take, ◌∙◌, ap, arith}
-use Rattle.job_history.proofs.Motions.{copied, removed, turned}
+use Rattle.std.proofs.Common.{arith}
+use Rattle.vcode_base.specs.declared.op.StackMove.TheVariants.{Copy, Pop, MoveToTop}
+use Rattle.job_history.proofs.Motions.{copied, removed, shifted}
 use Rattle.job_history.proofs.mirror.shift.Goals as goal
 
 pub returns-in_ok-copy_lower-in-Copy : goal.returns-in_ok-copy_lower-in-Copy
 returns-in_ok-copy_lower-in-Copy g c =
     let xs = c.args.entries.now.items in
-    let lower = c.args.lower in
-    let at : c.len-depth.result - (lower + c.args.upper) ≡ length xs - (lower + c.args.upper) =
-    omega (arith, c.len-depth.ensures) in
-    let whole = copied xs lower c.args.upper c.requires c.copy_lower.new.entries.items
-    (c.in_ok-copy_lower-in-Copy.ensures ∙ ap (λ n. xs ++ take lower (drop n xs)) at) in
-    rw c.in-Copy.is whole
+    rw c.in-Copy.is (shifted xs c.args.lower c.args.upper _ c.len-depth.result Copy c.requires
+    (omega (arith, c.len-depth.ensures)) (copied xs c.args.lower c.args.upper _ _ c.in_ok-copy_lower-in-Copy.ensures))
 
 pub returns-in-Pop : goal.returns-in-Pop
 returns-in-Pop g c =
     let xs = c.args.entries.now.items in
-    let ys = c.turn.new.entries.items in
-    let lower = c.args.lower in
-    let at : c.len-depth.result - (lower + c.args.upper) ≡ length xs - (lower + c.args.upper) =
-    omega (arith, c.len-depth.ensures) in
-    let left : c.len-depth.result - lower ≡ length xs - lower = omega (arith, c.len-depth.ensures) in
-    let whole = removed xs lower c.args.upper c.requires ys c.truncate.new.self.items
-    (c.turn.ensures ∙ ap (λ n. take n xs ++ (drop lower (drop n xs) ++ take lower (drop n xs))) at)
-    (c.truncate.ensures.items ∙ ap (λ n. take n ys) left) in
-    rw c.in-Pop.is whole
+    rw c.in-Pop.is (shifted xs c.args.lower c.args.upper _ c.len-depth.result Pop c.requires
+    (omega (arith, c.len-depth.ensures)) (removed xs c.args.lower c.args.upper c.turn.new.entries.items _
+    c.len-depth.result c.requires (omega (arith, c.len-depth.ensures)) c.turn.ensures c.truncate.ensures.items))
 
 pub returns-in-MoveToTop : goal.returns-in-MoveToTop
 returns-in-MoveToTop g c =
-    let xs = c.args.entries.now.items in
-    let lower = c.args.lower in
-    let at : c.len-depth.result - (lower + c.args.upper) ≡ length xs - (lower + c.args.upper) =
-    omega (arith, c.len-depth.ensures) in
-    let whole = turned xs lower c.args.upper c.requires c.turn-in-MoveToTop.new.entries.items
-    (c.turn-in-MoveToTop.ensures ∙ ap (λ n. take n xs ++ (drop lower (drop n xs) ++ take lower (drop n xs))) at) in
-    rw c.in-MoveToTop.is whole
+    rw c.in-MoveToTop.is (shifted c.args.entries.now.items c.args.lower c.args.upper
+    c.turn-in-MoveToTop.new.entries.items c.len-depth.result MoveToTop c.requires
+    (omega (arith, c.len-depth.ensures)) c.turn-in-MoveToTop.ensures)

@@ -1,19 +1,13 @@
-use Rattle.std.proofs.Common.{◌∙◌, ap}
-use Rattle.job_profile.specs.Walks.{ending_at}
-use Rattle.job_history.specs.Places.{Place, state_at}
-use Rattle.job_history.proofs.Gone.{come_to, none_shown}
+use Rattle.std.proofs.Common.{◌∙◌}
+use Rattle.job_history.proofs.Gone.{come_to, none_at}
 use Rattle.job_history.proofs.history.History.ending.Goals as goal
 
 pub returns-in-Some : goal.returns-in-Some
 returns-in-Some g c =
-    let i = c.self.inside in
-    let shows = c.in-Some.ensures i.walk.run.task c.self.invariant.are_kept in
-    none_shown i.walk.run.task i.at shows.on ∙ ap (λ (p : Place). ending_at (state_at p)) c.self.view_is
+    let shows = c.in-Some.ensures _ c.self.invariant.are_kept in
+    rw (← c.self.view_is) (none_at _ shows.on)
 
 pub returns-in-None : goal.returns-in-None
 returns-in-None g c =
-    let i = c.self.inside in
-    let come = come_to i.walk.run i.walk.at i.at c.self.invariant.run_at
-    (c.in-None.ensures i.walk.run.task c.self.invariant.are_kept) in
-    c.ending.ensures
-    ∙ (c.self.invariant.run_at.ended ∙ (ap ending_at come ∙ ap (λ (p : Place). ending_at (state_at p)) c.self.view_is))
+    let come = come_to c.self.invariant.run_at (c.in-None.ensures _ c.self.invariant.are_kept) in
+    rw (← c.self.view_is, ← come) (c.ending.ensures ∙ c.self.invariant.run_at.ended)

@@ -1,18 +1,13 @@
-use Rattle.std.proofs.Common.{sym, ◌∙◌, ap}
-use Rattle.job_profile.specs.Walks.{goes_on}
-use Rattle.job_history.specs.Places.{Place, state_at}
+use Rattle.std.proofs.Common.{sym}
 use Rattle.job_history.proofs.Gone.{come_to}
 use Rattle.job_history.proofs.history.History.goes_on.Goals as goal
 
 pub returns-in-Some : goal.returns-in-Some
 returns-in-Some g c =
-    let i = c.self.inside in
-    let shows = c.in-Some.ensures i.walk.run.task c.self.invariant.are_kept in
-    sym shows.on ∙ ap (λ (p : Place). goes_on (state_at p)) c.self.view_is
+    let shows = c.in-Some.ensures _ c.self.invariant.are_kept in
+    rw (← c.self.view_is) (sym shows.on)
 
 pub returns-in-None : goal.returns-in-None
 returns-in-None g c =
-    let i = c.self.inside in
-    let come = come_to i.walk.run i.walk.at i.at c.self.invariant.run_at
-    (c.in-None.ensures i.walk.run.task c.self.invariant.are_kept) in
-    c.goes_on.ensures ∙ (ap goes_on come ∙ ap (λ (p : Place). goes_on (state_at p)) c.self.view_is)
+    let come = come_to c.self.invariant.run_at (c.in-None.ensures _ c.self.invariant.are_kept) in
+    rw (← c.self.view_is, ← come) c.goes_on.ensures
