@@ -13,6 +13,7 @@ use job_steps::laws::{
 use std::alloc::Allocator;
 
 /// How events change the sum of the executed counts.
+#[tactic(auto, using(crate::proofs::CountLemmas::of_counts))]
 pub(crate) fn count_laws()
     ensures others { OthersCountNothing }
     ensures finishes { FinishesRaise }

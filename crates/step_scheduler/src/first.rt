@@ -98,6 +98,7 @@ fn collect<A: Allocator + Clone>(machine: &mut Machine<A>, job: usize)
 }
 
 /// Carries out the first steps of a job, until they show whether workers pay, and collects it if it is over.
+#[tactic(auto, using(crate::proofs::CountLemmas::continues_none))]
 fn look_at<A: Allocator + Clone>(
     machine: &mut Machine<A>,
     job: usize,
@@ -123,6 +124,7 @@ fn look_at<A: Allocator + Clone>(
 }
 
 /// Looks at one job after another of those that were admitted, until that shows whether workers pay.
+#[tactic(auto, using(crate::proofs::CountLemmas::continues_none))]
 fn look<A: Allocator + Clone>(
     machine: &mut Machine<A>,
     desk: Desk<A>,
@@ -142,6 +144,7 @@ fn look<A: Allocator + Clone>(
 }
 
 /// Runs jobs until workers are to be started, or until it is known that they aren't; true if they are.
+#[tactic(auto, using(crate::proofs::CountLemmas::continues_none))]
 fn runs_until_workers_pay<A: Allocator + Clone>(
     machine: &mut Machine<A>,
     desk: Desk<A>,

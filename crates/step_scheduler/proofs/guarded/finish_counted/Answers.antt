@@ -13,10 +13,7 @@ raised g c =
     c.finish_own-finished.ensures.state
 
 pub overflow_sub-result : goal.overflow_sub-result
-overflow_sub-result g c = let less = (raised g c).no_fewer in grind (arith, common_steps)
+overflow_sub-result g c = let r = raised g c in grind (arith, common_steps)
 
 pub returns-clause-counted : goal.returns-clause-counted
-returns-clause-counted g c =
-    let less = (raised g c).no_fewer in
-    let sum = (raised g c).sum_is in
-    grind (arith, common_steps)
+returns-clause-counted g c = let r = raised g c in grind (arith, common_steps)
