@@ -1,20 +1,16 @@
 -- What is read of a job, and what refuses it.
-use Rattle.std.proofs.Common.{◌≡◌, ℕ, ◌≤◌, List, Some, None, Ok, Err, arith, rules, [], ◌++◌, append_assoc}
-use Rattle.std.proofs.Common.{◌∙◌, Result, refl, sym, ap, subst}
+use Rattle.std.proofs.Common.{◌≡◌, ℕ, ◌≤◌, List, None, Ok, Err, arith, rules, [], ◌++◌, append_assoc, ◌∙◌, Result, refl}
 use Rattle.std.proofs.lemmas.List.{append-nil}
 use Rattle.std.proofs.lemmas.Bool.Decides.{nat_tests}
-use Rattle.vcode_base.specs.declared.limits.Limits.{Limits}
 use Rattle.vcode_reader.specs.declared.fault.CodeFault.{CodeFault}
 use Rattle.vcode_reader.specs.Reading.{ReaderState as CodeState, HasCome as CodeHasCome, reading as code_reading}
 use Rattle.vcode_reader.specs.Trees.{Program}
 use Rattle.signatures.specs.Reading.{reading as signatures_reading}
 use Rattle.signatures.specs.Signatures.{Signature}
-use Rattle.verifier.specs.declared.fault.KindFault.{KindFault}
 use Rattle.verifier.specs.First.{kind_fault}
 use Rattle.verifier.specs.Laws.{NoFaultWhereWellKinded}
 use Rattle.verifier.specs.Typed.{IsVerifiedBy}
 use Rattle.job_steps.specs.States.{JobValue}
-use Rattle.batch_reader.specs.declared.fault.JobFault.TheVariants.{Read, Kind}
 use Rattle.batch_reader.specs.declared.head.JobHeader.{JobHeader}
 use Rattle.batch_reader.specs.Batches.{JobText}
 use Rattle.batch_reader.specs.Fates.{JobRefusal, IsReady, limits_within, signatures_of, signed_program_of}
@@ -37,19 +33,6 @@ signatures_are region job known e f = rw (e, f) refl
 
 -- ---- the program
 
-pub refused_by_code : (region : ℕ) (job : JobText) (known : List Signature) (fault : CodeFault) (line : ℕ)
-    → signatures_of region job ≡ Ok known → code_reading job.code_line job.code ≡ Err (fault, line)
-    → signed_program_of region job ≡ Err (Read fault, line)
-unfolding signed_program_of
-refused_by_code region job known fault line e f = rw (e, f) refl
-
-pub refused_by_kinds : (region : ℕ) (job : JobText) (known : List Signature) (program : Program) (fault : KindFault)
-    (line : ℕ)
-    → signatures_of region job ≡ Ok known → code_reading job.code_line job.code ≡ Ok program
-    → kind_fault known program ≡ Some (fault, line) → signed_program_of region job ≡ Err (Kind fault, line)
-unfolding signed_program_of
-refused_by_kinds region job known program fault line e f k = search rules
-
 pub program_is : (region : ℕ) (job : JobText) (known : List Signature) (program : Program)
     → signatures_of region job ≡ Ok known → code_reading job.code_line job.code ≡ Ok program
     → kind_fault known program ≡ None → signed_program_of region job ≡ Ok (known, program)
@@ -58,19 +41,17 @@ program_is region job known program e f k = search rules
 
 -- ---- more code
 
--- a job whose code has a fault is refused, whatever code follows
-pub refused_in_code : (region : ℕ) (job : JobText) (known : List Signature) (first : ℕ) (text : List ℕ)
-    (fault : CodeFault) (line : ℕ)
-    → signatures_of region job ≡ Ok known → first ≡ job.code_line
-    → ((more : List ℕ) → code_reading first ((job.code ++ text) ++ more) ≡ Err (fault, line))
-    → (more : List ℕ) → signed_program_of region (with_code (with_code job text) more) ≡ Err (Read fault, line)
-unfolding signatures_of signed_program_of
-refused_in_code region job known first text fault line e n f more = grind (arith, f more)
+pub signatures_with_code : (region : ℕ) (job : JobText) (text : List ℕ)
+    → signatures_of region (with_code job text) ≡ signatures_of region job
+unfolding signatures_of
+signatures_with_code region job text = refl
 
 pub refused_with_more : (region : ℕ) (job : JobText) (refusal : JobRefusal) (text : List ℕ)
     → ((more : List ℕ) → signed_program_of region (with_code job more) ≡ Err refusal)
     → (more : List ℕ) → signed_program_of region (with_code (with_code job text) more) ≡ Err refusal
 refused_with_more region job refusal text h more = grind (arith, append_assoc)
+
+pub ruleset of_more_code = (refused_with_more, signatures_with_code, append_assoc)
 
 pub refused_with_none : (region : ℕ) (job : JobText) (refusal : JobRefusal)
     → ((more : List ℕ) → signed_program_of region (with_code job more) ≡ Err refusal)
@@ -83,8 +64,7 @@ pub code_comes_to : (region : ℕ) (known : List Signature) (r : CodeState) (job
     (x : Result Program (CodeFault × ℕ)) → HasRead region known r job
     → ((bytes : List ℕ) → CodeHasCome r bytes → code_reading r.first_line bytes ≡ x)
     → code_reading job.code_line job.code ≡ x
-code_comes_to region known r job x read answers =
-    ap (λ n. code_reading n job.code) (sym read.first_line) ∙ answers job.code read.code
+code_comes_to region known r job x read answers = grind (arith, answers)
 
 -- what is run is well kinded by the signatures of the text
 pub is_ready : (region : ℕ) (job : JobText) (known : List Signature) (program : Program) (kept : JobHeader (List ℕ))
@@ -94,13 +74,11 @@ pub is_ready : (region : ℕ) (job : JobText) (known : List Signature) (program 
     → IsVerifiedBy known ready.verified → ready.name ≡ kept.name → ready.limits ≡ kept.limits → IsReady region job ready
 is_ready region job known program kept ready law head e f same verified name limits =
     let fits = words_within region job known e in
-    let whole : signed_program_of region job ≡ Ok (known, ready.verified.program) = program_is region job known
-    ready.verified.program e (f ∙ ap Ok (sym same)) ((law known ready.verified.program).1 verified.well_kinded) in
     record {
       signatures = known;
-      program = whole;
+      program = grind (arith, program_is, (law known ready.verified.program).1 verified.well_kinded);
       verified = verified;
       name = name ∙ head.name;
       limits = limits ∙ head.limits;
-      words = subst (λ (l : Limits). l.words ≤ region) (sym (limits ∙ head.limits)) fits;
+      words = grind arith;
     }

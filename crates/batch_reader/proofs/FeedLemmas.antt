@@ -1,23 +1,23 @@
 -- A batch in pieces.
+use Rattle.batch_reader.proofs.LineLemmas.{feeds_of_joined, feeds_of_open, feeds_of_whole, BeginsLine, begins_line}
+use Rattle.batch_reader.proofs.LineLemmas.{lines_nil, lines_of_last, lines_of_whole, numbered_next, no_feed_append}
+use Rattle.batch_reader.proofs.LineLemmas.{numbered_none, numbered_past, whole_begins_line, whole_with}
+use Rattle.std.specs.Prelude.{Ok, OnOk, OnErr, ◌==◌}
 use Rattle.std.proofs.Common.{◌≡◌, ℕ, true, false, ◌+◌, ◌<◌, ◌≤◌, List, [], ◌∷◌, ◌++◌, length, Result, Err, refl, sym}
-use Rattle.std.proofs.Common.{arith, rules, append_assoc, length-append}
-use Rattle.std.specs.Prelude.{◌==◌}
+use Rattle.std.proofs.Common.{arith, rules, append_assoc, length-append, ◌-◌}
 use Rattle.std.proofs.lemmas.Bool.Decides.{nat_tests}
 use Rattle.std.proofs.lemmas.List.{append-nil}
 use Rattle.vcode_base.specs.declared.limits.TheConstants.{MOST_JOBS}
 use Rattle.batch_reader.specs.declared.entry.Batch.{Batch}
-use Rattle.batch_reader.specs.declared.stage.Stage.TheVariants as stage
 use Rattle.batch_reader.specs.Batches.{Refusal, RuledJobs, batch_in, jobs_of}
 use Rattle.batch_reader.specs.Fates.{JobEntry, IsBatch}
 use Rattle.batch_reader.specs.Feeds.{AnswersLines, ByLines, FeedState, HasCome, HasEnded, HoldsNoLineFeed, IsFirstLine}
-use Rattle.batch_reader.specs.Feeds.{IsOpenLine, IsRefused, IsWholeLine, LinesState, RefusesLongLine, Stands}
-use Rattle.batch_reader.specs.Headings.{BatchLine, line_of, numbered_lines}
+use Rattle.batch_reader.specs.Feeds.{IsOpenLine, IsRefused, IsWholeLine, LinesState, RefusesLongLine, Stands, HasComeIn}
+use Rattle.batch_reader.specs.Headings.{line_of, numbered_lines}
 use Rattle.batch_reader.specs.Lines.{lines}
 use Rattle.batch_reader.specs.Standings.{Fresh}
-use Rattle.batch_reader.proofs.LineLemmas.{BeginsLine, begins_line, lines_nil, lines_of_last, lines_of_whole}
-use Rattle.batch_reader.proofs.LineLemmas.{numbered_next, no_feed_append, numbered_none, numbered_past}
-use Rattle.batch_reader.proofs.LineLemmas.{whole_begins_line, whole_with}
 use Rattle.batch_reader.proofs.ReaderLemmas.{behind_none, stand}
+use Rattle.batch_reader.specs.Runs.{TakesCode}
 
 abbrev feed_with : List ℕ → LinesState → FeedState
 feed_with held s = record { held = held; lines = s }
@@ -46,28 +46,20 @@ more_has_come f held more before s same same_lines h = grind (arith, append_asso
 
 -- ---- a whole line
 
--- the line was taken
-pub record TakesLine (old new : LinesState) (text : List ℕ) : Type 0 where
-  pub taken : (come : ByLines) → Stands old come → Stands new (λ ls. come (line_of old.number text ∷ ls))
-  pub number : new.number ≡ old.number + 1
-  pub left : new.left + length text ≡ old.left
-
-pub line_has_come : (f : FeedState) (text rest before held : List ℕ) (old s : LinesState)
+pub line_has_come : {T E : Type 0} (r : Result T E) (f : FeedState) (text rest held : List ℕ) (old s : LinesState)
     → HoldsNoLineFeed f.held → IsWholeLine rest → text ≡ f.held ++ rest → held ≡ [] → old ≡ f.lines
-    → TakesLine old s text → HasCome f before → HasCome (feed_with held s) (before ++ rest)
-line_has_come f text rest before held old s none whole is cleared same takes h =
-    let t : TakesLine f.lines s text = rw same at takes in
-    let line : IsWholeLine text = rw is (whole_with f.held rest none whole) in
+    → OnOk r ((come : ByLines) → Stands old come → Stands s (λ ls. come (line_of old.number text ∷ ls)))
+    → OnOk r (s.number ≡ old.number + 1) → OnOk r (s.left + length text ≡ old.left)
+    → OnOk r ((before : List ℕ) → HasCome f before → HasCome (feed_with held s) (before ++ rest))
+line_has_come (Ok _) f text rest held old s none whole is cleared same taken number left =
+    λ before h. let line : IsWholeLine text = rw is (whole_with f.held rest none whole) in
+    let n : s.number ≡ f.lines.number + 1 = rw same at number in
+    let l : s.left + length text ≡ f.lines.left = rw same at left in
     come_to (h.whole ++ text) (λ ls. h.come (line_of f.lines.number text ∷ ls))
     (grind (arith, append_assoc, append-nil))
-    (λ more. grind (
-      arith,
-      append_assoc,
-      h.batch (text ++ more),
-      lines_of_whole text more line,
-      numbered_next f.lines.number f.lines.left s.number s.left text (lines more) t.number t.left,
-    ))
-    (t.taken h.come h.stands)
+    (λ more. grind (arith, append_assoc, h.batch (text ++ more), lines_of_whole, numbered_next, n, l))
+    ((rw same at taken) h.come h.stands)
+line_has_come (Err _) f text rest held old s none whole is cleared same taken number left = tt
 
 -- ---- a line past the limit
 
@@ -79,15 +71,14 @@ long_has_come f rest before held s begins cleared refuses long h =
     let refused = refuses h.come h.stands in
     let text = f.held ++ rest in
     come_to (h.whole ++ text) (λ ls. Err refused.refusal) (grind (arith, append_assoc, append-nil))
-    (λ more. let b = begins more in grind (
+    (λ more. grind (
       arith,
       append_assoc,
       length-append,
       h.batch (text ++ more),
-      b.lines_are,
-      numbered_past f.lines.number f.lines.left (text ++ b.rest) b.others
-          (omega (arith, long, length-append f.held rest, length-append text b.rest)),
-      refused.comes (text ++ b.rest),
+      begins more,
+      numbered_past,
+      refused.comes,
     ))
     refused.stands
 
@@ -109,41 +100,50 @@ long_rest_has_come f rest before held s none more_none cleared refuses long =
 
 -- ---- after what refuses the batch
 
--- no line changes the answer to a refused batch
-all_the_same : (s : LinesState) (come : ByLines) → IsRefused s → Stands s come → (ls ms : List BatchLine)
-    → come ls ≡ come ms
-all_the_same s come refused h ls ms = search rules
-
 pub refused_has_come : (f : FeedState) (piece before held : List ℕ) → held ≡ [] → IsRefused f.lines
     → HasCome f before → HasCome (feed_with held f.lines) (before ++ piece)
 refused_has_come f piece before held cleared refused h =
     come_to (before ++ piece) h.come (grind (arith, append-nil))
-    (λ more. grind (
-      arith,
-      append_assoc,
-      h.batch (f.held ++ (piece ++ more)),
-      all_the_same f.lines h.come refused h.stands (numbered_lines f.lines.number f.lines.left (lines more))
-          (numbered_lines f.lines.number f.lines.left (lines (f.held ++ (piece ++ more)))),
-    ))
+    (λ more. grind (arith, append_assoc, h.batch, h.stands.comes))
     h.stands
+
+-- ---- lines of code that are taken at once
+
+pub nothing_comes_in : (f : FeedState) (piece : List ℕ) → HasComeIn f f piece piece
+nothing_comes_in f piece = search rules
+
+pub code_has_come : (f : FeedState) (text before : List ℕ) (s : LinesState) → f.held ≡ []
+    → ((come : ByLines) → Stands f.lines come → TakesCode f.lines s text come)
+    → HasCome f before → HasCome (feed_with f.held s) (before ++ text)
+code_has_come f text before s none takes h =
+    let taken = takes h.come h.stands in
+    record {
+      whole = h.whole ++ text;
+      come = taken.next;
+      bytes = grind (arith, append-nil);
+      batch = λ more. grind (arith, append_assoc, h.batch (text ++ more), taken.comes more);
+      stands = taken.stands;
+    }
 
 -- ---- the end
 
-pub ended_with_line : (f : FeedState) (text : List ℕ) (s : LinesState) (whole : List ℕ) → HoldsNoLineFeed f.held
-    → text ≡ f.held → 0 < length text
-    → ((come : ByLines) → Stands f.lines come → Stands s (λ ls. come (line_of f.lines.number text ∷ ls)))
-    → s.left + length text ≡ f.lines.left → HasCome f whole → HasEnded s whole
-ended_with_line f text s whole none is some taken left h = record {
-  come = λ ls. h.come (line_of f.lines.number text ∷ ls);
-  batch = grind (
-    arith,
-    h.batch text,
-    lines_of_last text (rw is none) some,
-    numbered_next f.lines.number f.lines.left (f.lines.number + 1) s.left text [] refl left,
-    numbered_none (f.lines.number + 1) s.left,
-  );
-  stands = taken h.come h.stands;
-}
+pub ended_with_line : {T E : Type 0} (r : Result T E) (f : FeedState) (text : List ℕ) (s : LinesState)
+    → HoldsNoLineFeed f.held → text ≡ f.held → 0 < length text
+    → OnOk r ((come : ByLines) → Stands f.lines come → Stands s (λ ls. come (line_of f.lines.number text ∷ ls)))
+    → OnOk r (s.left + length text ≡ f.lines.left) → OnOk r ((whole : List ℕ) → HasCome f whole → HasEnded s whole)
+ended_with_line (Ok _) f text s none is some taken left =
+    λ whole h. record {
+      come = λ ls. h.come (line_of f.lines.number text ∷ ls);
+      batch = grind (
+        arith,
+        h.batch text,
+        lines_of_last text (rw is none) some,
+        numbered_next f.lines.number f.lines.left (f.lines.number + 1) s.left text [] refl left,
+        numbered_none,
+      );
+      stands = taken h.come h.stands;
+    }
+ended_with_line (Err _) f text s none is some taken left = tt
 
 pub ended_at_line : (f : FeedState) (bytes : List ℕ) → f.held ≡ [] → HasCome f bytes → HasEnded f.lines bytes
 ended_at_line f bytes none h = grind (arith, lines_nil, numbered_none)
@@ -162,10 +162,13 @@ is_nil (x ∷ xs) n e is = absurd (grind (arith, nat_tests))
 pub is_some : (xs : List ℕ) (n : ℕ) → length xs ≡ n → false ≡ n == 0 → 0 < length xs
 is_some xs n e is = search rules
 
-pub open_with : (old more new : List ℕ) (left : ℕ) → HoldsNoLineFeed old → HoldsNoLineFeed more
-    → length old + length more ≤ left → new ≡ old ++ more → IsOpenLine new left
-open_with old more new left none more_none few is = grind (arith, no_feed_append, length-append)
-
-pub open_without : (old new : List ℕ) (left : ℕ) → HoldsNoLineFeed old → length old ≤ left → new ≡ old
+-- more bytes were held back, or none
+pub open_kept : {T E : Type 0} (r : Result T E) (old more new : List ℕ) (left : ℕ) → HoldsNoLineFeed old
+    → HoldsNoLineFeed more → length old + length more ≤ left → OnOk r (new ≡ old ++ more) → OnErr r (new ≡ old)
     → IsOpenLine new left
-open_without old new left none few is = search rules
+open_kept (Ok _) old more new left none more_none few is _ = grind (arith, no_feed_append, length-append)
+open_kept (Err _) old more new left none more_none few _ is = search rules
+
+pub ruleset of_end_open = (ended_at_line, is_nil, feeds_of_open)
+
+pub ruleset of_end_line = (long_line_has_come, feeds_of_whole, feeds_of_joined)

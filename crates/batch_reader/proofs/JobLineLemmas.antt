@@ -29,9 +29,6 @@ same_limits : (words cells calls budget : ℕ) (w w' : words ≤ MOST_WORDS) (c 
     → limits_by words cells calls budget w c k b ≡ limits_by words cells calls budget w' c' k' b'
 same_limits words cells calls budget w w' c c' k k' b b' = cc (le_prop w w', both c c', both k k', le_prop b b')
 
-fits : (l : Limits) → are_limits l.words l.cells l.calls l.budget ≡ true
-fits l = search rules
-
 found : (l : Limits) (b : Bool) (e : are_limits l.words l.cells l.calls l.budget ≡ b) → b ≡ true
     → limits_where l.words l.cells l.calls l.budget b e ≡ Some l
 unfolding limits_by
@@ -42,7 +39,7 @@ found l false e n = cc
 
 -- limits are those of their numbers
 pub limits_are : (l : Limits) → limits_of (Some l.words) (Some l.cells) (Some l.calls) (Some l.budget) ≡ Some l
-limits_are l = grind (arith, found, fits)
+limits_are l = grind (arith, found)
 
 -- ---- numbers
 

@@ -6,6 +6,4 @@ pub mod JobLineLemmas
 pub mod LineLemmas
 pub mod ReaderLemmas
 pub mod OneBatch
-pub mod Results
-pub mod RunLemmas
 pub mod StepLemmas

@@ -1,11 +1,11 @@
 -- Lines at the front of a text, and lines in order.
+use Rattle.std.proofs.lemmas.List.{take-append-drop, append-nil}
 use Rattle.std.proofs.Common.{◌≡◌, ℕ, suc, ◌+◌, ◌-◌, ◌<◌, ◌≤◌, true, List, [], ◌∷◌, ◌++◌, length, get_or, take, refl}
 use Rattle.std.proofs.Common.{sym, ap, ◌∙◌, arith, rules, append_assoc}
 use Rattle.std.specs.Prelude.{◌==◌}
 use Rattle.std.specs.List.{onto_first}
 use Rattle.std.proofs.lemmas.Bool.Decides.{nat_tests}
 use Rattle.std.proofs.lemmas.Bool.{false_from_ne_true}
-use Rattle.std.proofs.lemmas.List.{append-nil}
 use Rattle.std.proofs.lemmas.Grind.{common_steps}
 use Rattle.vcode_base.specs.Lines.{line_feeds}
 use Rattle.batch_reader.specs.Feeds.{HoldsNoLineFeed, IsWholeLine}
@@ -22,12 +22,15 @@ pub feeds_of_open : (xs : List ℕ) → HoldsNoLineFeed xs → line_feeds xs ≡
 feeds_of_open [] h = refl
 feeds_of_open (x ∷ xs) h = rw (h.0, feeds_of_open xs h.1) refl
 
-feeds_of_front : (xs : List ℕ) → HoldsNoLineFeed xs → line_feeds (xs ++ 10 ∷ []) ≡ 1
-feeds_of_front [] h = refl
-feeds_of_front (x ∷ xs) h = rw (h.0, feeds_of_front xs h.1) refl
+pub feeds_append : (xs ys : List ℕ) → line_feeds (xs ++ ys) ≡ line_feeds xs + line_feeds ys
+feeds_append [] ys = omega arith
+feeds_append (x ∷ xs) ys = grind (arith, feeds_append xs ys)
 
 pub feeds_of_whole : (line : List ℕ) → IsWholeLine line → line_feeds line ≡ 1
-feeds_of_whole line whole = grind (arith, feeds_of_front)
+feeds_of_whole line whole = grind (arith, feeds_append, feeds_of_open)
+
+pub feeds_of_joined : (held rest : List ℕ) → HoldsNoLineFeed held → IsWholeLine rest → line_feeds (held ++ rest) ≡ 1
+feeds_of_joined held rest none whole = grind (arith, feeds_append, feeds_of_open, feeds_of_whole)
 
 -- an open line with the rest of it
 pub whole_with : (held rest : List ℕ) → HoldsNoLineFeed held → IsWholeLine rest → IsWholeLine (held ++ rest)
@@ -51,10 +54,8 @@ lines_of_last (x ∷ []) h some = rw h.0 refl
 lines_of_last (x ∷ y ∷ ys) h some = rw (h.0, lines_of_last (y ∷ ys) h.1 (omega arith)) refl
 
 -- the first line of a text begins with these bytes
-pub record BeginsLine (front text : List ℕ) : Type 0 where
-  pub rest : List ℕ
-  pub others : List (List ℕ)
-  pub lines_are : lines text ≡ (front ++ rest) ∷ others
+abbrev pub BeginsLine : List ℕ → List ℕ → Type 0
+BeginsLine front text = (rest : List ℕ) × (others : List (List ℕ)) × (lines text ≡ (front ++ rest) ∷ others)
 
 onto_some : (x : ℕ) (ls : List (List ℕ))
     → (rest : List ℕ) × (others : List (List ℕ)) × (onto_first x ls ≡ (x ∷ rest) ∷ others)
@@ -64,18 +65,13 @@ onto_some x (l ∷ ls) = (l, ls, refl)
 pub begins_line : (front more : List ℕ) → HoldsNoLineFeed front → 0 < length front → BeginsLine front (front ++ more)
 unfolding lines
 begins_line [] more h some = absurd (omega arith)
-begins_line (x ∷ []) more h some =
-    let o = onto_some x (lines more) in record { rest = o.0; others = o.1; lines_are = rw h.0 o.2 }
+begins_line (x ∷ []) more h some = let o = onto_some x (lines more) in (o.0, o.1, rw h.0 o.2)
 begins_line (x ∷ y ∷ ys) more h some =
-    let b = begins_line (y ∷ ys) more h.1 (omega arith) in
-    record { rest = b.rest; others = b.others; lines_are = rw (h.0, b.lines_are) refl }
+    let b = begins_line (y ∷ ys) more h.1 (omega arith) in (b.0, b.1, rw (h.0, b.2) refl)
 
 pub whole_begins_line : (line more : List ℕ) → IsWholeLine line → BeginsLine line (line ++ more)
-whole_begins_line line more whole = record {
-  rest = [];
-  others = lines more;
-  lines_are = lines_of_whole line more whole ∙ ap (λ l. l ∷ lines more) (sym (append-nil line));
-}
+whole_begins_line line more whole =
+    ([], lines more, lines_of_whole line more whole ∙ ap (λ l. l ∷ lines more) (sym (append-nil line)))
 
 pub lines_nil : lines [] ≡ []
 unfolding lines
@@ -114,3 +110,5 @@ line_at xs i less none is = (
   no_feed_at (take i xs) (λ k low small at. grind (arith, nat_tests, common_steps, none k)),
   grind (arith, nat_tests, common_steps),
 )
+
+pub ruleset of_first_line = (take-append-drop, line_at, no_feed_at)

@@ -9,7 +9,6 @@ use Rattle.batch_reader.specs.declared.heading.Heading.{Heading}
 use Rattle.batch_reader.specs.declared.heading.Heading.TheVariants.{Blank, SecondRule, Signatures, Code, End}
 use Rattle.batch_reader.specs.declared.fault.BatchFault.TheVariants.{BadJobLine, UnfinishedJob, TooLarge}
 use Rattle.batch_reader.specs.declared.head.JobHeader.{JobHeader}
-use Rattle.batch_reader.specs.declared.stage.Stage.TheVariants as stage
 use Rattle.batch_reader.specs.declared.stage.StageStep.TheVariants.{To, Ends, Begins}
 use Rattle.batch_reader.specs.Batches.{JobText, lines_behind_blanks, jobs_in, batch_in, job_from_code}
 use Rattle.batch_reader.specs.Batches.{job_from_signatures, job_without_parts, whole_job}
@@ -23,6 +22,7 @@ use Rattle.batch_reader.specs.Standings.{BatchStanding, Fresh, Between, Headed, 
 use Rattle.batch_reader.specs.Standings.{HasRoom, JobStage, CodePart, SignaturesPart, ShowsCode, ShowsSignatures}
 use Rattle.batch_reader.specs.Standings.{ShowsStep, Stays, JobStep, StageShows, SaysJob, Turns, jobs_from, rule_by}
 use Rattle.batch_reader.specs.Standings.{with_signatures, with_code, with_code_line}
+use Rattle.batch_reader.specs.declared.stage.Stage.TheVariants as stage
 
 -- a line after which there are this standing and room for as many jobs
 turn : {region ended room : ℕ} {standing : BatchStanding} {l : BatchLine} {s : JobStep} (behind : ℕ)
@@ -168,13 +168,8 @@ pub turns_of_code : (region ended : ℕ) (kept : JobHeader (List ℕ)) (part : C
     → (room : ℕ) (standing : BatchStanding) → StageShows region (stage.Code kept part) standing
     → HasRoom ended room standing
     → Turns region ended room standing l s
-turns_of_code region ended kept part l s turns room Fresh shown has = absurd shown
-turns_of_code region ended kept part l s turns room Between shown has = absurd shown
-turns_of_code region ended kept part l s turns room (Headed head line) shown has = absurd shown
-turns_of_code region ended kept part l s turns room (InSignatures job) shown has = absurd shown
 turns_of_code region ended kept part l s turns room (InCode job) shown has = turns room job shown has
-turns_of_code region ended kept part l s turns room (Ended job) shown has = absurd shown
-turns_of_code region ended kept part l s turns room (Refused refusal) shown has = absurd shown
+turns_of_code region ended kept part l s turns room _ shown has = absurd shown
 
 -- a line past the limit refuses what isn't refused
 pub past_limit : (region : ℕ) (rule : Rule) (room : ℕ) (kept : JobStage) (standing : BatchStanding) (n : ℕ)

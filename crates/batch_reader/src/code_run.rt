@@ -17,6 +17,7 @@ pub(crate) struct CodeRun<'a> {
 
 /// The lines at the front of a text that have an LF, up to the first that is `END`, as far as they have at most `most`
 /// bytes, and the rest after them.
+#[tactic(auto, using(crate::proofs::CodeTexts::of_run))]
 pub(crate) fn code_run(text: &[u8], most: usize) -> (CodeRun<'_>, &[u8])
     ensures lines { AreCodeLines result.0.count result.0.text.now }
     ensures parts { text.now ≡ result.0.text.now ++ result.1.now }
@@ -30,6 +31,7 @@ pub(crate) fn code_run(text: &[u8], most: usize) -> (CodeRun<'_>, &[u8])
 
 /// How many bytes the lines at the front of a text have that an LF ends, up to the first that is `END`. Such a line has
 /// a `D`, and lines without one aren't looked at.
+#[tactic(auto, using(crate::proofs::CodeTexts::of_code_len))]
 fn code_len(text: &[u8]) -> usize
     ensures within { result ≤ length text.now }
     ensures code { IsCodeText (take result text.now) }
@@ -48,6 +50,7 @@ fn code_len(text: &[u8]) -> usize
 
 /// The rest of a text after the line that holds its first `D`, which is at this place, if the line has an LF and isn't
 /// `END`.
+#[tactic(auto, using(crate::proofs::CodeTexts::after_d))]
 #[inline(always)]
 fn behind_line_at(text: &[u8], place: usize) -> Option<&[u8]>
     requires first { NoneBefore (Passes (is_byte 68) text.now) 0 (length text.now) place }
@@ -74,6 +77,7 @@ fn may_be_of_end(before: &[u8], from: &[u8]) -> bool
 }
 
 /// The rest of a text after its first line, if that has an LF and isn't `END`.
+#[tactic(auto, using(crate::proofs::CodeTexts::after_line))]
 #[inline(always)]
 fn behind_code_line(text: &[u8]) -> Option<&[u8]>
     ensures { IfSome result (λ rest. IsAfterCode text.now rest.now) }

@@ -46,6 +46,7 @@ pub(crate) fn job_entry<A: Allocator + Copy>(
 }
 
 /// What becomes of a job of these signatures, whose code this reader was fed.
+#[tactic(auto, using(crate::proofs::FateLemmas::code_comes_to), unfolding(crate::specs::Fates::signed_program_of))]
 fn read_fate<A: Allocator + Copy>(
     alloc: A,
     head: &JobHeader<JobName<A>>,
@@ -64,6 +65,7 @@ fn read_fate<A: Allocator + Copy>(
 }
 
 /// What becomes of a job of these signatures and this program.
+#[tactic(auto, unfolding(crate::specs::Fates::signed_program_of))]
 fn verified_fate<A: Allocator + Copy>(
     alloc: A,
     head: &JobHeader<JobName<A>>,

@@ -70,6 +70,7 @@ impl<A: Allocator + Copy> Feed<A> {
     /// # Errors
     ///
     /// [`AllocError`] if memory is refused, and from then on at each piece.
+    #[tactic(auto, using(crate::proofs::FeedLemmas::refused_has_come))]
     pub fn feed(&mut self, piece: &[u8]) -> Result<(), AllocError>
         // The bytes of the piece follow the bytes before.
         ensures fed { OnOk result ((before : List ℕ) → HasCome self.old before
@@ -107,6 +108,7 @@ impl<A: Allocator + Copy> Feed<A> {
     }
 
     /// Takes the open line, which nothing follows.
+    #[tactic(auto, using(crate::proofs::FeedLemmas::of_end_open))]
     fn end_open(&mut self) -> Result<(), AllocError>
         ensures ended { OnOk result ((bytes : List ℕ) → HasCome self.old bytes → HasEnded self.new.lines bytes) }
         ensures region { self.new.lines.region ≡ self.old.lines.region }
@@ -137,6 +139,7 @@ impl<A: Allocator + Copy> Feed<A> {
 
     /// Takes the lines at the front of a piece that are lines of the open code, at once, and answers the rest after
     /// them.
+    #[tactic(auto, using(crate::proofs::FeedLemmas::nothing_comes_in))]
     fn feed_code<'p>(&mut self, piece: &'p [u8]) -> Result<&'p [u8], AllocError>
         ensures fed { MatchResult result
             (λ rest. HasComeIn self.old self.new piece.now rest.now)
@@ -156,6 +159,7 @@ impl<A: Allocator + Copy> Feed<A> {
     }
 
     /// Takes the rest of the open line, with its LF.
+    #[tactic(auto, using(crate::proofs::FeedLemmas::of_end_line))]
     fn end_line(&mut self, rest: &[u8]) -> Result<(), AllocError>
         requires { IsWholeLine rest.now }
         ensures fed { OnOk result ((before : List ℕ) → HasCome self.old before
@@ -177,6 +181,7 @@ impl<A: Allocator + Copy> Feed<A> {
     }
 
     /// Takes more of the open line, in which there is no LF.
+    #[tactic(auto, using(crate::proofs::FeedLemmas::long_rest_has_come, crate::proofs::FeedLemmas::more_has_come))]
     fn hold(&mut self, more: &[u8]) -> Result<(), AllocError>
         requires { HoldsNoLineFeed more.now }
         ensures fed { OnOk result ((before : List ℕ) → HasCome self.old before

@@ -52,6 +52,7 @@ pub(crate) fn heading_of(line: &[u8]) -> Heading
 }
 
 /// Whether a line is `END`. Few lines of code begin as it does.
+#[tactic(auto, using(crate::proofs::HeadingLemmas::no_end, crate::proofs::HeadingLemmas::no_end_in_none))]
 #[inline(always)]
 pub(crate) fn is_end(line: &[u8]) -> bool
     ensures { result ≡ is_end (heading_of (batch_words line.now)) }
@@ -80,6 +81,7 @@ pub(crate) fn may_be_around_end(first: u8, next: u8) -> bool
 }
 
 /// Whether a line may be a heading, or have no word, as its first bytes say. Few lines of code may.
+#[tactic(auto, using(crate::proofs::HeadingLemmas::other_in_code, crate::proofs::HeadingLemmas::other_line))]
 fn may_be_heading(line: &[u8]) -> bool
     ensures { result ≡ false → heading_of (batch_words line.now) ≡ Other }
 {

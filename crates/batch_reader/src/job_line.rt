@@ -102,6 +102,7 @@ fn is_name(word: &[u8]) -> bool
 }
 
 /// The number that a word is of at most 10 decimal digits.
+#[tactic(auto, using(crate::proofs::JobLineLemmas::number_is))]
 fn number(word: &[u8]) -> Option<u64>
     ensures { result ≡ number_of word.now }
 {

@@ -4,6 +4,7 @@ ghost use Rattle.batch_reader.specs.Laws.{OneBatch, OneEntry};
 
 /// Whatever the bytes and the region, the batch has one answer: one refusal, or one list of jobs with one
 /// fate each.
+#[tactic(auto, using(crate::proofs::OneBatch::one_batch))]
 pub fn one_batch()
     ensures { OneBatch }
 {}

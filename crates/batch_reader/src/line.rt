@@ -11,6 +11,7 @@ use memchr::{memchr, memrchr};
 const PIECE: usize = 224;
 
 /// The first line of a text that an LF ends, with that LF, and the rest after it; `None` if there is no LF.
+#[tactic(auto, using(crate::proofs::LineLemmas::of_first_line))]
 pub(crate) fn first_line(text: &[u8]) -> Option<(&[u8], &[u8])>
     ensures { MatchOption result (HoldsNoLineFeed text.now)
         (λ parts. IsWholeLine parts.0.now × (text.now ≡ parts.0.now ++ parts.1.now)) }
@@ -35,6 +36,7 @@ fn begins_with_line_feed(text: &[u8]) -> bool
 }
 
 /// The lines of a text that an LF before this place ends, and the rest after them.
+#[tactic(auto, using(crate::proofs::CodeTexts::of_front))]
 #[inline(always)]
 pub(crate) fn whole_lines_before(text: &[u8], place: usize) -> (&[u8], &[u8])
     requires { place ≤ length text.now }
@@ -50,6 +52,7 @@ pub(crate) fn whole_lines_before(text: &[u8], place: usize) -> (&[u8], &[u8])
 }
 
 /// How many LFs a text has.
+#[tactic(auto, using(crate::proofs::CodeTexts::feeds_of_parts, crate::proofs::CodeTexts::few_feeds))]
 pub(crate) fn count_line_feeds(text: &[u8]) -> u64
     ensures { result ≡ line_feeds text.now }
 {
@@ -64,6 +67,7 @@ pub(crate) fn count_line_feeds(text: &[u8]) -> u64
 }
 
 /// How many LFs a text of at most 255 bytes has. The count is a byte, so that one instruction looks at many bytes.
+#[tactic(auto, using(crate::proofs::CodeTexts::feeds_taken))]
 fn count_in_piece(piece: &[u8]) -> u8
     requires { length piece.now ≤ 255 }
     ensures { result ≡ line_feeds piece.now }

@@ -171,6 +171,7 @@ impl<A: Allocator + Copy> LineReader<A> {
     /// # Errors
     ///
     /// [`AllocError`] if memory is refused. The reader has then failed.
+    #[tactic(auto, using(crate::proofs::ReaderLemmas::code_taken, crate::proofs::CodeTexts::few_lines))]
     pub(crate) fn take_code(&mut self, run: CodeRun<'_>) -> Result<(), AllocError>
         requires in_code { IsInCode self.old.stage }
         requires lines { AreCodeLines run.count run.text.now }
@@ -196,6 +197,7 @@ impl<A: Allocator + Copy> LineReader<A> {
     /// # Errors
     ///
     /// [`AllocError`] if memory is refused. The reader has then failed.
+    #[tactic(auto, using(crate::proofs::ReaderLemmas::at_place))]
     #[inline(never)]
     fn take_other(&mut self, line: BatchLine<'_>) -> Result<(), AllocError>
         requires within { length line.text.now ≤ self.old.left }
@@ -221,6 +223,7 @@ impl<A: Allocator + Copy> LineReader<A> {
     }
 
     /// Takes the next line, which holds the first byte past the limit of a batch.
+    #[tactic(auto, using(crate::proofs::ReaderLemmas::of_long_line))]
     pub(crate) fn take_long_line(&mut self)
         ensures refused { (come : ByLines) → Stands self.old come → RefusesLongLine self.old self.new come }
         ensures region { self.new.region ≡ self.old.region }

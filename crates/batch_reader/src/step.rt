@@ -34,6 +34,7 @@ use vcode_base::limits::MOST_JOBS;
 use vcode_reader::{CodeFault, CodeReader};
 
 /// What this line makes of a stage, if `ended` jobs have ended, over a region of `region` words.
+#[tactic(auto, using(crate::proofs::StepLemmas::turns_of_code))]
 pub(crate) fn step<A: Allocator + Copy>(
     alloc: A,
     region: usize,
@@ -299,7 +300,7 @@ pub(crate) fn step_through<A: Allocator + Copy>(
 }
 
 /// Takes more of the code. Once the code has a fault, no further line is read.
-#[tactic(auto, using(crate::proofs::FateLemmas::refused_with_more))]
+#[tactic(auto, using(crate::proofs::FateLemmas::of_more_code), unfolding(crate::specs::Fates::signed_program_of))]
 fn more_code<A: Allocator + Copy>(
     part: &mut Part<CodeReading<A>>,
     text: &[u8],

@@ -1,5 +1,5 @@
 use Rattle.std.proofs.Common.{refl, ◌∙◌}
-use Rattle.batch_reader.proofs.FateLemmas.{is_ready, refused_by_kinds}
+use Rattle.batch_reader.proofs.FateLemmas.{is_ready}
 use Rattle.batch_reader.proofs.fate.verified_fate.Goals as goal
 
 pub returns-in_ok-from_slice-in-Ok : goal.returns-in_ok-from_slice-in-Ok
@@ -13,9 +13,3 @@ returns-in_ok-from_slice-in-Ok g c =
     })
     c.no_fault_where_well_kinded.ensures head signatures code c.in-Ok.ensures.1 c.in-Ok.ensures.0
     (c.from_vec-name.ensures ∙ c.in_ok-from_slice-in-Ok.ensures.items ∙ c.as_slice.ensures) refl)
-
-pub returns-in-Err-At : goal.returns-in-Err-At
-returns-in-Err-At g c =
-    λ region job head signatures code. rw c.in-Err-At.field-0-is (refused_by_kinds region job c.args.signatures.now
-    c.args.program c.in-Err-At.fault c.in-Err-At.line signatures code (rw c.in-Err-At.field-0-is at
-    c.in-Err-At.ensures))

@@ -4,9 +4,4 @@ use Rattle.batch_reader.proofs.line.count_in_piece.Goals as goal
 
 pub overflow_add-count : goal.overflow_add-count
 overflow_add-count c =
-    let few = few_feeds_taken (c.loop-byte.byte-index + 1) c.args.piece.now in
-    let more = feeds_taken c.loop-byte.byte-index c.args.piece.now c.loop-byte-test.true in
-    grind (arith, few, more)
-
-pub loop-byte-preserved : goal.loop-byte-preserved
-loop-byte-preserved c = grind (arith, feeds_taken)
+    grind (arith, few_feeds_taken (c.loop-byte.byte-index + 1) c.args.piece.now, feeds_taken)

