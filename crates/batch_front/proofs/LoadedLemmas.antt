@@ -22,3 +22,6 @@ pub jobs_out : (batch : LoadedBatch) (before after : MachineState) (reported : L
     → batch ≡ Jobs before reported → IsWaiting batch → after.tasks ≡ before.tasks → HasRunOut after
     → RanOut batch (Jobs after reported)
 jobs_out batch before after reported is waiting same out = grind arith
+
+-- a batch before its jobs run, and after
+pub ruleset loaded_out = (refused_out, jobs_wait, jobs_out)

@@ -6,7 +6,7 @@ use Rattle.std.specs.declared.result.Result.{Result}
 use Rattle.std.specs.Io.KnownBytes.{Appends, Keeps}
 use Rattle.std.specs.List.{flat_map}
 use Rattle.std.proofs.lemmas.Grind.{flat_map-append}
-use Rattle.std.proofs.lemmas.List.{take_more}
+use Rattle.std.proofs.lemmas.List.{take_more, take_all}
 use Rattle.batch_front.specs.declared.device.Device.{Device}
 use Rattle.batch_front.specs.declared.device.TheConstants.{MOST_INTERRUPTIONS}
 use Rattle.batch_front.specs.declared.fault.FrontFault.{FrontFault}
@@ -22,9 +22,6 @@ use Rattle.batch_front.specs.Pages.{Ends, HasSent, IsSaid, IsWritten, Puts, Send
 appends_two : (a b c : Option (List ℕ)) (xs ys zs : List ℕ) → Appends a b xs → Appends b c ys → zs ≡ xs ++ ys
     → Appends a c zs
 appends_two a b c xs ys zs p q e = grind (arith, append_assoc)
-
-appends_kept : (a b c : Option (List ℕ)) (xs : List ℕ) → Appends a b xs → Keeps b c → Appends a c xs
-appends_kept a b c xs p q = grind arith
 
 -- a front of a list is a front of a longer one
 front_kept : (n : ℕ) (xs ys : List ℕ) → (k : ℕ) × (take k (xs ++ ys) ≡ take n xs)
@@ -147,12 +144,6 @@ puts_more {X = X} piece xs i x within is before after =
 
 -- ---- the end
 
-on_ok : {P : Type 0} (result : Result (Unit {0}) FrontFault) → P → OnOk result P
-on_ok result p = grind arith
-
-on_err : {P : Type 0} (result : Result (Unit {0}) FrontFault) → P → OnErr result P
-on_err result p = grind arith
-
 -- a writer at fault
 pub ends_at_fault : {D : Type 0} (contents : D → Option (List ℕ)) (page new : Page) (old writer : Device D)
     → Puts contents page old new writer [] → (HasWorked writer (interrupts_of writer + new.spent) → ⊥)
@@ -168,30 +159,9 @@ pub ends_flushed : {D : Type 0} (contents : D → Option (List ℕ)) (page new :
     → OnErr result (IsAtFault writer (interrupts_of writer + new.spent)) → OnErr result (IsErrOf result Write)
     → Ends contents page old writer result
 ends_flushed contents page new old sent writer result puts none well kept flushed worked fault alone start said h =
-    ended (rw append-nil at (puts.said start said h))
-  where
-    here : HasSent start (contents (inner_of sent)) said new.bytes.items
-        → Appends start (contents (inner_of writer)) said
-    here h =
-        grind (arith, appends_kept start (contents (inner_of sent)) (contents (inner_of writer)) said, append-nil)
-
-    ended : IsSaid contents page.spent start said new.bytes.items sent
-        → IsWritten contents page.spent start said writer result
-    ended (inl (w, h)) = record {
-      all_written = on_ok result (here h);
-      flushed = flushed;
-      worked = grind (arith, puts.spent);
-      front_written = (length said, rw (take_whole (length said) said (omega arith)) (here h));
-      before_flush = on_err result (λ _. here h);
-      fault = grind (arith, puts.spent);
-      write_alone = alone;
-    }
-    ended (inr (f, h)) = grind (arith, puts.spent)
+    grind (arith, puts.said start said h, puts.spent, append-nil, take_all (length said) said)
 
 -- ---- a report
-
-appends_nothing : (a : Option (List ℕ)) → Appends a a []
-appends_nothing a = grind (arith, append-nil)
 
 -- a text that is put on an empty page, after which the page is finished, is written
 pub writes : {D : Type 0} (contents : D → Option (List ℕ)) (spent : ℕ) (page new : Page) (old put writer : Device D)
@@ -200,11 +170,7 @@ pub writes : {D : Type 0} (contents : D → Option (List ℕ)) (spent : ℕ) (pa
     → IsWritten contents spent (contents (inner_of old)) text writer result
 writes contents spent page new old put writer text result none same fresh few puts ends =
     let start = contents (inner_of old) in
-    let first : IsSaid contents page.spent start [] page.bytes.items old = inl (
-      (fresh.not_failed, omega (arith, fresh.not_interrupted)),
-      record { sent = []; appended = appends_nothing start; all = sym none },
-    ) in
-    grind (arith, ends start text, puts.said start [] first)
+    grind (arith, ends start text, puts.said start [], puts.spent, append-nil)
 
 -- what is written with a value in place of nothing
 pub written_with : {D T : Type 0} (contents : D → Option (List ℕ)) (spent : ℕ) (start : Option (List ℕ))
@@ -218,3 +184,9 @@ pub written_not : {D T : Type 0} (contents : D → Option (List ℕ)) (spent : �
     (writer : Device D) (done : Result (Unit {0}) FrontFault) (fault : FrontFault) → done ≡ Err fault
     → IsWritten contents spent start said writer done → IsWritten {T = T} contents spent start said writer (Err fault)
 written_not contents spent start said writer done fault e h = grind arith
+
+-- what is put by one call
+pub ruleset puts_by = (puts_kept, puts_unchanged, puts_sent, puts_at_once, puts_then)
+
+-- what a call that writes or flushes makes of a page
+pub ruleset page_ends = (ends_at_fault, ends_flushed, working, not_working, sends_bytes)

@@ -27,23 +27,20 @@ use Rattle.batch_front.specs.ReportedJobs.{IsFateOn, IsReportedOf, ReportedJob}
 use Rattle.batch_front.specs.ReportedJobs.{fate_tasks, fate_text_on, has_returned_on, have_returned_on, report_text}
 use Rattle.batch_front.specs.ReportedJobs.{reported_job_text, reported_status}
 use Rattle.batch_front.specs.ReportedJobs.{reported_jobs_text, tasks_of}
+use Rattle.std.proofs.lemmas.Grind.{elements}
+use Rattle.std.proofs.lemmas.Option.{slice_get-map}
+use Rattle.batch_reader.specs.declared.entry.Fate.TheVariants.{Ready, Refused}
 
 -- a job's name with its fate
 abbrev EntryOf : Type 0 → Type 0
 EntryOf T = Entry (List ℕ) (Fate T)
 
--- ---- numbers
-
+-- if tasks are added after others, these keep their numbers
 at_front : {T : Type 0} (xs ys : List T) (place : ℕ) (task : T) → slice_get xs place ≡ Some task
     → slice_get (xs ++ ys) place ≡ Some task
 at_front [] ys place task e = cc
 at_front (x ∷ xs) ys zero task e = e
 at_front (x ∷ xs) ys (suc place) task e = at_front xs ys place task e
-
--- if tasks are added after others, these keep their numbers
-number_kept : {T : Type 0} (xs ys : List T) (number : ℕ) (task : T) → of_job number xs ≡ Some task
-    → of_job number (xs ++ ys) ≡ Some task
-number_kept xs ys number task e = grind (arith, at_front)
 
 at_end : {T : Type 0} (xs : List T) (task : T) → slice_get (xs ++ task ∷ []) (length xs) ≡ Some task
 at_end [] task = refl
@@ -54,128 +51,76 @@ pub last_number : {T : Type 0} (xs : List T) (task : T) → of_job (length (xs +
     (xs ++ task ∷ []) ≡ Some task
 last_number xs task = grind (arith, common_steps, at_end xs task)
 
-fate_kept : {T : Type 0} (xs ys : List T) (reported_job : Fate ℕ) (fate : Fate T) → IsFateOn xs reported_job fate
-    → IsFateOn (xs ++ ys) reported_job fate
-fate_kept xs ys reported_job fate h = grind (arith, number_kept)
+one_kept : {T : Type 0} (xs ys : List T) (reported_job : ReportedJob) (entry : EntryOf T) →
+    IsReportedOf xs reported_job entry → IsReportedOf (xs ++ ys) reported_job entry
+one_kept xs ys reported_job entry h = grind (arith, at_front)
 
-reported_job_kept : {T : Type 0} (xs ys : List T) (reported_job : ReportedJob) (entry : EntryOf T) →
-    IsReportedOf xs reported_job entry
-    → IsReportedOf (xs ++ ys) reported_job entry
-reported_job_kept xs ys reported_job entry h = grind (arith, fate_kept)
-
-reported_kept : {T : Type 0} (xs ys : List T) (reported : List ReportedJob) (entries : List (EntryOf T))
-    → AreReportedOf xs reported entries
-    → AreReportedOf (xs ++ ys) reported entries
-reported_kept xs ys [] entries h = grind arith
-reported_kept xs ys (reported_job ∷ reported) [] h = h
-reported_kept xs ys (reported_job ∷ reported) (entry ∷ entries) h =
-    grind (arith, reported_job_kept, reported_kept xs ys reported entries h.1)
-
-reported_with : {T : Type 0} (tasks : List T) (reported : List ReportedJob) (entries : List (EntryOf T))
-    (reported_job : ReportedJob)
-    (entry : EntryOf T)
-    → AreReportedOf tasks reported entries → IsReportedOf tasks reported_job entry
-    → AreReportedOf tasks (reported ++ reported_job ∷ []) (entries ++ entry ∷ [])
-reported_with tasks [] [] reported_job entry h last = (last, tt)
-reported_with tasks [] (e ∷ es) reported_job entry h last = absurd h
-reported_with tasks (s ∷ ss) [] reported_job entry h last = absurd h
-reported_with tasks (s ∷ ss) (e ∷ es) reported_job entry h last =
-    (h.0, reported_with tasks ss es reported_job entry h.1 last)
+pushed : {T : Type 0} (old more : List T) (reported : List ReportedJob) (entries : List (EntryOf T))
+    (reported_job : ReportedJob) (entry : EntryOf T)
+    → AreReportedOf old reported entries → IsReportedOf (old ++ more) reported_job entry
+    → AreReportedOf (old ++ more) (reported ++ reported_job ∷ []) (entries ++ entry ∷ [])
+pushed old more [] [] reported_job entry h last = (last, tt)
+pushed old more [] (e ∷ es) reported_job entry h last = absurd h
+pushed old more (r ∷ rs) [] reported_job entry h last = absurd h
+pushed old more (r ∷ rs) (e ∷ es) reported_job entry h last =
+    (one_kept old more r e h.0, pushed old more rs es reported_job entry h.1 last)
 
 -- one job more
-pub reported_pushed : {T : Type 0} (old new more : List T) (reported : List ReportedJob) (entries : List
-    (EntryOf T)) (reported_job : ReportedJob)
-    (entry : EntryOf T)
+pub reported_pushed : {T : Type 0} (old new more : List T) (reported : List ReportedJob) (entries : List (EntryOf T))
+    (reported_job : ReportedJob) (entry : EntryOf T)
     → new ≡ old ++ more → AreReportedOf old reported entries → IsReportedOf new reported_job entry
     → AreReportedOf new (reported ++ reported_job ∷ []) (entries ++ entry ∷ [])
-reported_pushed old new more reported entries reported_job entry e h last = grind (arith, reported_with, reported_kept)
+reported_pushed old new more reported entries reported_job entry e h last = grind (arith, pushed)
 
 pub tasks_pushed : {T : Type 0} (entries : List (EntryOf T)) (entry : EntryOf T)
     → tasks_of (entries ++ entry ∷ []) ≡ tasks_of entries ++ fate_tasks entry.fate
 tasks_pushed [] entry = grind arith
 tasks_pushed (e ∷ es) entry = grind (arith, tasks_pushed es entry, append_assoc)
 
--- ---- what the tasks are
-
-fate_counted : {T : Type 0} (fate : Fate T) → length (fate_tasks fate) + (if is_refused fate then 1 else 0) ≡ 1
-fate_counted fate = grind arith
-
--- the refused ones, counted by cases
-abbrev refused_in : {T : Type 0} → List (EntryOf T) → ℕ
-refused_in [] = 0
-refused_in (e ∷ es) = cond (is_refused e.fate) (1 + refused_in es) (refused_in es)
-
-count_more : (refused : Bool) (rest : ℕ) → (if refused then 1 else 0) + rest ≡ cond refused (1 + rest) rest
-count_more refused rest = grind arith
-
-counted_in : {T : Type 0} (entries : List (EntryOf T)) → length (tasks_of entries) + refused_in entries ≡ length entries
-counted_in [] = refl
-counted_in (e ∷ es) =
-    grind (arith, fate_counted e.fate, counted_in es, length-append (fate_tasks e.fate) (tasks_of es), count_more)
-
 -- there are no more tasks than jobs, and the others are refused
-pub counted : {T : Type 0} (entries : List (EntryOf T)) → length
-    (tasks_of entries) + refused_count entries ≡ length entries
-counted entries =
-    grind (arith, counted_in entries, is_count_by refused_in (λ e. is_refused e.fate) refl (λ _ _. refl) entries)
+counted : {T : Type 0} (entries : List (EntryOf T)) → length (tasks_of entries) + refused_count entries ≡ length entries
+counted [] = refl
+counted (e ∷ es) = grind (arith, common_steps, counted es)
+
+tasks_fewer : {T : Type 0} (entries : List (EntryOf T)) → length (tasks_of entries) ≤ length entries
+tasks_fewer [] = omega arith
+tasks_fewer (e ∷ es) = grind (arith, tasks_fewer es, length-append)
 
 pub tasks_few : {T : Type 0} (entries : List (EntryOf T)) (tasks : List T) (most : ℕ) → tasks ≡ tasks_of entries
     → length entries ≤ most → length tasks ≤ most
-tasks_few entries tasks most e h = grind (arith, tasks_of, counted)
-
-fate_tasks_fit : (region : ℕ) (fate : Fate JobValue) → FateFits region fate
-    → All (λ job. job.limits.words ≤ region) (fate_tasks fate)
-fate_tasks_fit region fate h = grind arith
+tasks_few entries tasks most e h = grind (arith, tasks_fewer)
 
 pub tasks_fit : (region : ℕ) (entries : List JobEntry) → EntriesFit region entries
     → All (λ job. job.limits.words ≤ region) (tasks_of entries)
 tasks_fit region [] h = grind arith
-tasks_fit region (e ∷ es) h =
-    All-append (λ (job : JobValue). job.limits.words ≤ region) (fate_tasks e.fate) (tasks_of es)
-    (fate_tasks_fit region e.fate h.0) (tasks_fit region es h.1)
-
-fate_fits : (region : ℕ) (job : JobText) (fate : Fate JobValue) → IsFate region job fate → FateFits region fate
-fate_fits region job fate h = grind arith
+tasks_fit region (e ∷ es) h = grind (arith, All-append, tasks_fit region es h.1)
 
 entries_fit : (region : ℕ) (jobs : List JobText) (entries : List JobEntry) → AreEntries region jobs entries
     → EntriesFit region entries
 entries_fit region [] entries h = grind arith
 entries_fit region (j ∷ js) [] h = absurd h
-entries_fit region (j ∷ js) (e ∷ es) h = grind (arith, fate_fits region j e.fate, entries_fit region js es)
+entries_fit region (j ∷ js) (e ∷ es) h = grind (arith, entries_fit region js es)
 
 pub batch_fits : (region : ℕ) (bytes : List ℕ) (batch : Batch (List JobEntry)) → IsBatch region bytes batch
     → BatchFits region batch
 batch_fits region bytes batch h = grind (arith, entries_fit)
 
--- ---- what is reported of them
+-- what is reported by numbers is what is reported of the jobs
+record Told (tasks : List Task) (number : ℕ) (reported : List ReportedJob) (entries : List TaskEntry) : Type 0 where
+  count : length reported ≡ length entries
+  among : AreAmong tasks reported
+  text : reported_jobs_text tasks number reported ≡ entries_text number entries
+  returned : have_returned_on tasks reported ≡ list_all (λ (entry : TaskEntry). has_returned entry.fate) entries
 
-fate_among : (tasks : List Task) (reported_job : Fate ℕ) (fate : Fate Task) → IsFateOn tasks reported_job fate →
-    IsAmong tasks reported_job
-fate_among tasks reported_job fate h = grind arith
-
-among : (tasks : List Task) (reported : List ReportedJob) (entries : List TaskEntry) →
-    AreReportedOf tasks reported entries
-    → AreAmong tasks reported
-among tasks [] entries h = grind arith
-among tasks (s ∷ ss) [] h = absurd h
-among tasks (s ∷ ss) (e ∷ es) h =
-    All-cons (λ (reported_job : ReportedJob). IsAmong tasks reported_job.fate) s ss
-    (fate_among tasks s.fate e.fate h.0.fate) (among tasks ss es h.1)
-
-fate_told : (tasks : List Task) (reported_job : Fate ℕ) (fate : Fate Task) → IsFateOn tasks reported_job fate
-    → fate_text_on tasks reported_job ≡ fate_text fate
-fate_told tasks reported_job fate h = grind arith
-
-reported_told : (tasks : List Task) (number : ℕ) (reported : List ReportedJob) (entries : List TaskEntry)
-    → AreReportedOf tasks reported entries → reported_jobs_text tasks number reported ≡ entries_text number entries
-reported_told tasks number [] [] h = refl
-reported_told tasks number [] (e ∷ es) h = absurd h
-reported_told tasks number (s ∷ ss) [] h = absurd h
-reported_told tasks number (s ∷ ss) (e ∷ es) h =
-    grind (arith, fate_told tasks s.fate e.fate, reported_told tasks (number + 1) ss es)
+all_told : (tasks : List Task) (number : ℕ) (reported : List ReportedJob) (entries : List TaskEntry)
+    → AreReportedOf tasks reported entries → Told tasks number reported entries
+all_told tasks number [] [] h = grind arith
+all_told tasks number [] (e ∷ es) h = absurd h
+all_told tasks number (s ∷ ss) [] h = absurd h
+all_told tasks number (s ∷ ss) (e ∷ es) h = grind (arith, elements, all_told tasks (number + 1) ss es h.1)
 
 -- the lines of one job more
-pub one_told_more : (tasks : List Task) (number : ℕ) (reported : List ReportedJob) (place : ℕ) (any : ReportedJob) →
+one_told_more : (tasks : List Task) (number : ℕ) (reported : List ReportedJob) (place : ℕ) (any : ReportedJob) →
     place < length reported
     → reported_jobs_text tasks number (take (place + 1) reported)
     ≡ reported_jobs_text tasks number (take place reported) ++ reported_job_text tasks (number + place)
@@ -183,10 +128,7 @@ pub one_told_more : (tasks : List Task) (number : ℕ) (reported : List Reported
 one_told_more tasks number [] place any h = grind arith
 one_told_more tasks number (s ∷ ss) zero any h = grind (arith, append-nil)
 one_told_more tasks number (s ∷ ss) (suc place) any h =
-    let later = one_told_more tasks (number + 1) ss place any (omega arith) in
-    let count : suc place + 1 ≡ suc (place + 1) = omega arith in
-    let same : (number + 1) + place ≡ number + suc place = omega arith in
-    grind (arith, append_assoc, count, same)
+    grind (arith, append_assoc, one_told_more tasks (number + 1) ss place any)
 
 pub reported_with_one : (tasks : List Task) (reported : List ReportedJob) (place : ℕ) (reported_job : ReportedJob) →
     place < length reported
@@ -197,59 +139,28 @@ pub reported_with_one : (tasks : List Task) (reported : List ReportedJob) (place
 reported_with_one tasks reported place reported_job l e =
     grind (arith, one_told_more tasks 1 reported place reported_job)
 
-same_count : (tasks : List Task) (reported : List ReportedJob) (entries : List TaskEntry) →
-    AreReportedOf tasks reported entries
-    → length reported ≡ length entries
-same_count tasks [] entries h = grind arith
-same_count tasks (s ∷ ss) [] h = absurd h
-same_count tasks (s ∷ ss) (e ∷ es) h = grind (arith, same_count tasks ss es h.1)
-
-fate_returned : (tasks : List Task) (reported_job : Fate ℕ) (fate : Fate Task) → IsFateOn tasks reported_job fate
-    → has_returned_on tasks reported_job ≡ has_returned fate
-fate_returned tasks reported_job fate h = grind arith
-
-have_returned : (tasks : List Task) (reported : List ReportedJob) (entries : List TaskEntry) →
-    AreReportedOf tasks reported entries
-    → have_returned_on tasks reported ≡ list_all (λ (entry : TaskEntry). has_returned entry.fate) entries
-have_returned tasks [] [] h = refl
-have_returned tasks [] (e ∷ es) h = absurd h
-have_returned tasks (s ∷ ss) [] h = absurd h
-have_returned tasks (s ∷ ss) (e ∷ es) h = grind (arith, fate_returned tasks s.fate e.fate, have_returned tasks ss es)
-
--- what is reported by numbers is what is reported of the jobs
 pub record IsTold (tasks : List Task) (reported : List ReportedJob) (entries : List TaskEntry) : Type 0 where
   pub among : AreAmong tasks reported
   pub fewer : length tasks ≤ length reported
   pub report : report_text tasks reported ≡ jobs_text entries
   pub status : reported_status tasks reported ≡ jobs_status entries
 
-told : (tasks : List Task) (reported : List ReportedJob) (entries : List TaskEntry) →
-    AreReportedOf tasks reported entries
-    → tasks ≡ tasks_of entries → IsTold tasks reported entries
-told tasks reported entries h e = grind (arith, same_count, counted, among, reported_told, have_returned)
-
 pub told_of : (tasks : List Task) (reported : List ReportedJob) (entries : List TaskEntry) →
     AreLoaded tasks reported entries
     → IsTold tasks reported entries
-told_of tasks reported entries h = told tasks reported entries h.reported_are h.tasks_are
+told_of tasks reported entries h =
+    grind (arith, counted entries, all_told tasks 1 reported entries h.reported_are, h.tasks_are)
 
 -- a machine with the reported jobs of the entries
 pub jobs_on : (m : MachineState) (reported shown : List ReportedJob) (entries : List TaskEntry) → shown ≡ reported
     → AreLoaded m.tasks reported entries → AreJobsOf m shown
 jobs_on m reported shown entries e h = grind (arith, told_of)
 
--- ---- under the rule of the batch
-
-number_ruled : (rule : Rule) (jobs : List JobValue) (place : ℕ) (job : JobValue) → slice_get jobs place ≡ Some job
-    → slice_get (map (ruled rule) jobs) place ≡ Some (ruled rule job)
-number_ruled rule [] place job e = grind arith
-number_ruled rule (j ∷ jobs) zero job e = grind arith
-number_ruled rule (j ∷ jobs) (suc place) job e = number_ruled rule jobs place job e
-
+-- under the rule of the batch
 fate_ruled : (rule : Rule) (jobs : List JobValue) (reported_job : Fate ℕ) (fate : Fate JobValue) →
     IsFateOn jobs reported_job fate
     → IsFateOn (map (ruled rule) jobs) reported_job (ruled_fate rule fate)
-fate_ruled rule jobs reported_job fate h = grind (arith, none-some, number_ruled, ruled_fate)
+fate_ruled rule jobs reported_job fate h = grind (arith, none-some, slice_get-map, ruled_fate)
 
 reported_ruled : (rule : Rule) (jobs : List JobValue) (reported : List ReportedJob) (entries : List JobEntry)
     → AreReportedOf jobs reported entries → AreReportedOf (map (ruled rule) jobs) reported (ruled_entries rule entries)
@@ -259,14 +170,10 @@ reported_ruled rule jobs (s ∷ ss) [] h = absurd h
 reported_ruled rule jobs (s ∷ ss) (e ∷ es) h =
     grind (arith, fate_ruled rule jobs s.fate e.fate, reported_ruled rule jobs ss es)
 
-fate_tasks_ruled : (rule : Rule) (fate : Fate JobValue)
-    → map (ruled rule) (fate_tasks fate) ≡ fate_tasks (ruled_fate rule fate)
-fate_tasks_ruled rule fate = grind arith
-
 tasks_ruled : (rule : Rule) (entries : List JobEntry)
     → map (ruled rule) (tasks_of entries) ≡ tasks_of (ruled_entries rule entries)
 tasks_ruled rule [] = refl
-tasks_ruled rule (e ∷ es) = grind (arith, map-append, fate_tasks_ruled rule e.fate, tasks_ruled rule es)
+tasks_ruled rule (e ∷ es) = grind (arith, map-append, tasks_ruled rule es)
 
 -- the reported jobs of a machine that took jobs over and has this rule
 pub loaded_by : (rule : Rule) (tasks : List Task) (jobs : List JobValue) (reported : List ReportedJob)
@@ -275,3 +182,6 @@ pub loaded_by : (rule : Rule) (tasks : List Task) (jobs : List JobValue) (report
     → AreLoaded tasks reported (ruled_entries rule entries)
 loaded_by rule tasks jobs reported all entries e f h k =
     grind (arith, ruled_entries, map, ruled, tasks_ruled, reported_ruled)
+
+-- the numbers of the jobs
+pub ruleset numbers = (last_number, reported_pushed, tasks_pushed, reported_with_one)

@@ -43,6 +43,9 @@ executed_told m job h = grind (arith, told_out, executed_at)
 pub peak_told : (m : MachineState) (job : ℕ) → HasRunOut m → told peak_at job m ≡ option_map peak (of_job job m.tasks)
 peak_told m job h = grind (arith, told_out, peak_at)
 
+-- what a machine that has run out tells of a job
+pub ruleset told_of_a_job = (outcome_told, executed_told, peak_told)
+
 -- the lines on a job that there is
 pub told_as : (task : Option Task) (ending : Outcome (List Vector)) (instructions words : ℕ) → IsTask task
     → Some ending ≡ option_map outcome task → Some instructions ≡ option_map executed_count task

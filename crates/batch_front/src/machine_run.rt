@@ -73,6 +73,7 @@ fn run_by_turns<A: Allocator + Copy>(
 
 /// Runs the jobs of a batch, which all wait, to their ends on the calling thread, first by the schedule, if there is
 /// one.
+#[tactic(auto, using(crate::proofs::LoadedLemmas::loaded_out))]
 pub(crate) fn run_on_caller<A: Allocator + Copy>(
     alloc: A,
     batch: LoadedBatch<A>,
@@ -92,6 +93,7 @@ pub(crate) fn run_on_caller<A: Allocator + Copy>(
 
 /// Runs the jobs of a batch, which all wait, to their ends: on lanes if more than one is asked for, else on worker
 /// threads, which pass the gate in the middle of each step.
+#[tactic(auto, using(crate::proofs::LoadedLemmas::loaded_out))]
 pub(crate) fn run_on_threads<A, H, G>(
     rt: &H,
     alloc: A,

@@ -46,6 +46,7 @@ fn works<W>(writer: &Device<W>, spent: u64) -> bool
 }
 
 /// Writes the bytes, if the writer is without a fault.
+#[tactic(auto, using(crate::proofs::PageLemmas::page_ends))]
 fn send<W: Write>(writer: &mut Device<W>, bytes: &[u8], spent: u64)
     ensures { Sends W.contents spent bytes.now writer.old writer.new }
 {
@@ -56,6 +57,7 @@ fn send<W: Write>(writer: &mut Device<W>, bytes: &[u8], spent: u64)
 }
 
 /// Writes what is kept back.
+#[tactic(auto, using(crate::proofs::PageLemmas::puts_by))]
 fn empty<W: Write>(page: &mut Page, writer: &mut Device<W>)
     ensures bytes { page.new.bytes.items ≡ [] }
     ensures puts { Puts W.contents page.old writer.old page.new writer.new [] }

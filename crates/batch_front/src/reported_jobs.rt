@@ -22,6 +22,7 @@ use vcode_base::Outcome;
 pub(crate) type ReportedJob<A> = Entry<JobName<A>, Fate<usize>>;
 
 /// Adds a job that may run after the others, and gives its number.
+#[tactic(auto, using(crate::proofs::ReportedJobLemmas::numbers))]
 fn numbered_fate<A: Allocator>(
     fate: Fate<Job<A>>,
     jobs: &mut Vec<Job<A>, A>,
@@ -52,6 +53,7 @@ fn reported_job<A: Allocator>(
 }
 
 /// Puts the jobs of entries that may run into a list that is empty, and gives their numbers there.
+#[tactic(auto, using(crate::proofs::ReportedJobLemmas::numbers))]
 pub(crate) fn reported_jobs<A: Allocator>(
     alloc: A,
     entries: Vec<JobEntry<A>, A>,
@@ -81,7 +83,7 @@ pub(crate) fn number_of<A: Allocator>(reported: &[ReportedJob<A>], place: usize)
 }
 
 /// Puts how a job on a machine ended and what it used.
-#[tactic(auto, using(crate::proofs::RunLemmas::outcome_told, crate::proofs::RunLemmas::executed_told, crate::proofs::RunLemmas::peak_told))]
+#[tactic(auto, using(crate::proofs::RunLemmas::told_of_a_job))]
 fn put_told<A: Allocator, W: Write>(
     page: &mut Page,
     writer: &mut Device<W>,

@@ -85,6 +85,7 @@ pub(crate) fn read_batch<A: Allocator + Copy, R: Read>(
 }
 
 /// Writes all the bytes. `spent` interruptions are spent already, beside those of the writer.
+#[tactic(auto, using(crate::proofs::Bytes::appends_more))]
 pub(crate) fn write_bytes<W: Write>(
     writer: &mut Device<W>,
     bytes: &[u8],

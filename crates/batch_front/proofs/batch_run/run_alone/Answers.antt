@@ -1,3 +1,4 @@
+-- A run ends by a batch that can't be read, by memory that is refused, or by its report: each is an end of a run.
 use Rattle.std.proofs.Common.{◌≡◌, Err, inr, rules}
 use Rattle.batch_front.proofs.FeedLemmas.{only_at_write}
 use Rattle.batch_front.proofs.WholeRuns.{run_refused, run_told, run_unread}

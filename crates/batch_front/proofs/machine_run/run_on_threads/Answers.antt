@@ -1,10 +1,7 @@
-use Rattle.batch_front.proofs.LoadedLemmas.{jobs_out, refused_out}
+use Rattle.batch_front.proofs.LoadedLemmas.{jobs_out}
 use Rattle.batch_front.proofs.machine_run.run_on_threads.Goals as goal
 use Rattle.batch_front.proofs.machine_run.run_on_threads.Goals.{then-options-gt1+in_ok-machine-in-Jobs}
 use Rattle.batch_front.proofs.machine_run.run_on_threads.Goals.{else-options-gt1+in_ok-machine-in-Jobs-2}
-
-pub returns-in-Refused-clause-out : goal.returns-in-Refused-clause-out
-returns-in-Refused-clause-out g c = refused_out c.args.batch c.in-Refused.line c.in-Refused.fault c.in-Refused.is
 
 pub returns-after-options-gt1-clause-out : goal.returns-after-options-gt1-clause-out
 returns-after-options-gt1-clause-out g c =

@@ -1,3 +1,4 @@
+-- The pieces between commas are the schedule's items. It is refused if one is no item, or if there are too many.
 use Rattle.std.proofs.Common.{◌∙◌, sym, ap, arith, length, lit<, map}
 use Rattle.std.specs.Prelude.{◌==◌}
 use Rattle.std.proofs.lemmas.Grind.{common_steps}

@@ -1,3 +1,4 @@
+-- The reader is fed to its end, or to one byte more than a batch may have, and is read no further.
 use Rattle.std.proofs.Common.{arith, rules}
 use Rattle.std.proofs.lemmas.Grind.{common_steps}
 use Rattle.batch_front.proofs.FeedLemmas.{fed_more, fed_none, fed_no_further, fed_to_end, fed_to_limit, read_no_further}
