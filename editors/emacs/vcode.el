@@ -32,14 +32,8 @@
 ;;;; Colours
 
 (defconst vcode-instructions
-  (let ((folds '("+" "*" "MAX" "MIN" "AND" "OR" "XOR")))
-    (append
-     '("CONST" "COPY" "POP" "CPOP" "CALL"
-       "+" "-" "*" "/" "%" "LSHIFT" "RSHIFT" "<" "<=" ">" ">=" "=" "!=" "AND" "OR" "XOR" "NOT" "SELECT"
-       "I_TO_B" "B_TO_I" "DIST" "INDEX" "PERMUTE" "BPERMUTE" "DPERMUTE" "EXTRACT" "REPLACE" "PACK"
-       "MAKE_SEGDES" "LENGTHS")
-     (cl-loop for fold in folds collect (concat fold "_SCAN") collect (concat fold "_REDUCE"))))
-  "The words with which instructions begin, but for `vcode-control'.")
+  '("CONST" "COPY" "POP" "CPOP" "CALL" "I_TO_B" "B_TO_I" "INDEX" "MAKE_SEGDES" "LENGTHS")
+  "The first words of instructions that needn't stand before a kind.")
 
 (defconst vcode-control '("FUNC" "RET" "IF" "ELSE" "ENDIF")
   "The words that say where a job goes on.")
@@ -71,6 +65,7 @@
     (,(vcode--words vcode-control) . font-lock-keyword-face)
     (,(vcode--words vcode-instructions) . font-lock-builtin-face)
     (,(vcode--words '("INT" "BOOL" "SEGDES")) . font-lock-type-face)
+    ("\\_<\\([^ \t\r\n(){}]+\\)[ \t\r]+\\(?:INT\\|BOOL\\)\\_>" 1 font-lock-builtin-face)
     (,(vcode--words '("T" "F")) . font-lock-constant-face)
     ("\\_<-?[0-9]+\\_>" . font-lock-constant-face))
   "The colours of VCODE.  Those of comments come from the syntax table.")

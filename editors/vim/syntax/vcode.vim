@@ -24,11 +24,9 @@ syntax keyword vcodeControl FUNC nextgroup=vcodeFunction skipwhite skipempty
 syntax keyword vcodeInstruction CALL nextgroup=vcodeFunction skipwhite skipempty
 syntax match vcodeFunction /[^ \t\r(){}]\+/ contained
 
-syntax keyword vcodeInstruction CONST COPY POP CPOP
-syntax keyword vcodeInstruction + - * / % LSHIFT RSHIFT < <= > >= = != AND OR XOR NOT SELECT I_TO_B B_TO_I
-syntax keyword vcodeInstruction +_SCAN *_SCAN MAX_SCAN MIN_SCAN AND_SCAN OR_SCAN XOR_SCAN
-syntax keyword vcodeInstruction +_REDUCE *_REDUCE MAX_REDUCE MIN_REDUCE AND_REDUCE OR_REDUCE XOR_REDUCE
-syntax keyword vcodeInstruction DIST INDEX PERMUTE BPERMUTE DPERMUTE EXTRACT REPLACE PACK MAKE_SEGDES LENGTHS
+" The first words of instructions stand before a kind, but for these.
+syntax match vcodeInstruction /[^ \t\r(){}]\+\ze[ \t\r]\+\%(INT\|BOOL\)\%([ \t\r{(]\|$\)/
+syntax keyword vcodeInstruction CONST COPY POP CPOP I_TO_B B_TO_I INDEX MAKE_SEGDES LENGTHS
 syntax keyword vcodeKind INT BOOL SEGDES
 syntax keyword vcodeFlag T F
 syntax match vcodeNumber /\%(^\|[ \t\r()}]\)\@1<=-\?\d\+\ze\%([ \t\r(){]\|$\)/
