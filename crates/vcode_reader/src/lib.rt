@@ -14,21 +14,17 @@
 //! item     = IF item* [ ELSE item* ] ENDIF
 //!          | CONST INT ints | CONST BOOL bools
 //!          | COPY n n | POP n n | CPOP n n | CALL name
-//!          | + INT | - INT | * INT | / INT | % INT | LSHIFT INT | RSHIFT INT
-//!          | < INT | <= INT | > INT | >= INT | = INT | != INT
-//!          | AND k | OR k | XOR k | NOT k | SELECT k | I_TO_B | B_TO_I
-//!          | +_SCAN INT | *_SCAN INT | MAX_SCAN INT | MIN_SCAN INT
-//!          | AND_SCAN k | OR_SCAN k | XOR_SCAN k | the same with _REDUCE
-//!          | DIST k | PERMUTE k | BPERMUTE k | DPERMUTE k | EXTRACT k | REPLACE k | PACK k
-//!          | INDEX [ INT ] | MAKE_SEGDES [ INT ] | LENGTHS [ INT ]
+//!          | word | word INT | word [ INT ] | word k
 //! k        = INT | BOOL
 //! ints     = number | ( number* )
 //! bools    = T | F | ( list of T and F )
 //! ```
 //!
-//! A name is any word of at most 64 bytes but a parenthesis, also `RET`. Names of functions differ.
-//! `n` is a number within 0 to 4,096. There are at most 512 functions, at most 64 IFs open at a
-//! time, and at most 65,536 values in a list. The line of an item is that of its first word.
+//! The words of the last line are those of the other instructions, and each stands in one of its four
+//! forms: `specs/Heads` has both. A name is any word of at most 64 bytes but a parenthesis, also `RET`.
+//! Names of functions differ. `n` is a number within 0 to 4,096. There are at most 512 functions, at
+//! most 64 IFs open at a time, and at most 65,536 values in a list. The line of an item is that of its
+//! first word.
 //!
 //! **Refusals.** The first word after which no further words could make a program is refused, on its line:
 //! [`CodeFault::BadWord`] for an unknown word at the place of an item or `FUNC`, a kind that
