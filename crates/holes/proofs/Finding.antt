@@ -208,5 +208,5 @@ not_free bits word none = grind (arith, word_run, word_free, word_past)
 pub none_below_lowest : (bits : List ℕ) → NoneBelow bits (lowest_fit 1 (words_of bits))
 none_below_lowest bits word lt = grind (arith, not_free, fit_before)
 
--- what the lowest fit of one word tells
+-- what is known of the lowest fit of one word
 pub ruleset lowest_words = (length-words, lowest_within, none_below_lowest)
