@@ -18,6 +18,7 @@ mod descriptors;
 mod distributions;
 mod extractions;
 mod fills;
+mod folds;
 mod gathers;
 mod indices;
 mod needs;
@@ -29,7 +30,6 @@ mod replacements;
 mod scans;
 mod scatters;
 mod shapes;
-mod steps;
 
 pub use fills::fill;
 pub use needs::need;

@@ -4,48 +4,39 @@ ghost use Rattle.vcode_base.specs.Segments.{total, segments, folds_before};
 ghost use Rattle.segment_ops.specs.Folds.{exclusive_scan};
 
 use crate::descriptors::end_of;
-use crate::steps::{Max, Min, identity_of};
-use vcode_base::element::{And, Combine, Or, Product, Sum, Xor};
-use vcode_base::{Fold, Logic};
+use crate::folds::{OverSegments, by_fold};
+use vcode_base::Fold;
+use vcode_base::element::Combine;
 
 /// `+_SCAN` and the other scans: each element of the result combines the elements before its place in
 /// the segment, so the first one of each segment is the identity.
 ///
 /// `elements` and `out` are in the segments of `descriptor`.
-#[tactic(auto, using(crate::proofs::FoldLemmas::scan_is))]
 pub(crate) fn scan(fold: Fold, elements: &[i64], descriptor: &[i64], out: &mut [i64])
     requires lengths { AreLengths descriptor.now }
     requires whole { length elements.now ≡ total descriptor.now }
     requires room { length out.old ≡ length elements.now }
     ensures { out.new ≡ flat_map (folds_before fold) (segments descriptor.now elements.now) }
 {
-    let start = identity_of(fold);
-    match fold {
-        Fold::Sum => scan_segments::<Sum>(elements, descriptor, start, out),
-        Fold::Product => scan_segments::<Product>(elements, descriptor, start, out),
-        Fold::Max => scan_segments::<Max>(elements, descriptor, start, out),
-        Fold::Min => scan_segments::<Min>(elements, descriptor, start, out),
-        Fold::Logic(logic, _) => match logic {
-            Logic::And => scan_segments::<And>(elements, descriptor, start, out),
-            Logic::Or => scan_segments::<Or>(elements, descriptor, start, out),
-            Logic::Xor => scan_segments::<Xor>(elements, descriptor, start, out),
-        },
-    }
+    by_fold::<ExclusiveScan>(fold, elements, descriptor, out);
 }
 
-/// Writes the scan of each segment, which begins again at `start`.
-#[tactic(auto, using(crate::proofs::SegmentLemmas::total_more, crate::proofs::SegmentLemmas::flat_walk))]
-fn scan_segments<S: Combine>(elements: &[i64], descriptor: &[i64], start: i64, out: &mut [i64])
-    requires lengths { AreLengths descriptor.now }
-    requires whole { length elements.now ≡ total descriptor.now }
-    requires room { length out.old ≡ length elements.now }
-    ensures { out.new ≡ flat_map (exclusive_scan S.combination start) (segments descriptor.now elements.now) }
-{
-    let mut begin = 0;
-    for segment in 0..descriptor.len() {
-        let end = end_of(descriptor, segment, begin);
-        scan_segment::<S>(&elements[begin..end], start, &mut out[begin..end]);
-        begin = end;
+/// At each place of a segment the fold of the elements before it.
+struct ExclusiveScan;
+
+impl OverSegments for ExclusiveScan {
+    ghost room = { λ elements _. length elements };
+
+    ghost written = { λ combination start. flat_map (exclusive_scan combination start) };
+
+    #[tactic(auto, using(crate::proofs::SegmentLemmas::total_more, crate::proofs::SegmentLemmas::flat_walk))]
+    fn write<S: Combine>(elements: &[i64], descriptor: &[i64], start: i64, out: &mut [i64]) {
+        let mut begin = 0;
+        for segment in 0..descriptor.len() {
+            let end = end_of(descriptor, segment, begin);
+            scan_segment::<S>(&elements[begin..end], start, &mut out[begin..end]);
+            begin = end;
+        }
     }
 }
 

@@ -1,5 +1,9 @@
-use Rattle.std.proofs.Common.{◌≡◌, take, fold}
+use Rattle.std.proofs.Common.{◌≡◌, ◌≤◌, drop, fold, length}
 use Rattle.segment_ops.proofs.reductions.reduce_segment.Given as goal
 
-abbrev pub invariant-loop-element : goal.invariant-loop-element
-invariant-loop-element g l = l.so_far ≡ fold g.S.Combine.combination l.fn.start (take l.element-index l.elements)
+abbrev pub invariant-loop-i : goal.invariant-loop-i
+invariant-loop-i g l = record {
+  so_far : fold g.S.Combine.combination l.fn.start l.elements
+      ≡ fold g.S.Combine.combination l.so_far (drop l.i l.elements);
+  within : l.i ≤ length l.elements;
+}

@@ -1,6 +1,6 @@
 use Rattle.std.proofs.Common.{◌≡◌, ◌+◌, ◌++◌, length, take, drop, map, fold}
 use Rattle.vcode_base.specs.Segments.{total, segments}
-use Rattle.segment_ops.proofs.reductions.reduce_segments.Given as goal
+use Rattle.segment_ops.proofs.reductions.ReductionOverSegments.write.Given as goal
 
 abbrev pub invariant-loop-segment : goal.invariant-loop-segment
 invariant-loop-segment g l = record {

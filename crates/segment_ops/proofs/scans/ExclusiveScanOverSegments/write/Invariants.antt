@@ -2,7 +2,7 @@ use Rattle.std.proofs.Common.{◌≡◌, ◌+◌, ◌++◌, length, take, drop}
 use Rattle.std.specs.List.{flat_map}
 use Rattle.vcode_base.specs.Segments.{total, segments}
 use Rattle.segment_ops.specs.Folds.{exclusive_scan}
-use Rattle.segment_ops.proofs.scans.scan_segments.Given as goal
+use Rattle.segment_ops.proofs.scans.ExclusiveScanOverSegments.write.Given as goal
 
 abbrev pub invariant-loop-segment : goal.invariant-loop-segment
 invariant-loop-segment g l = record {
