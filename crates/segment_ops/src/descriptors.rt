@@ -1,9 +1,10 @@
 ghost use Rattle.std.specs.Prelude.{◌≡◌, ◌≤◌, ◌<◌, ◌+◌, ◌^◌, pos, length, drop, slice_index_or, unsigned_abs};
-ghost use Rattle.std.specs.Prelude.{◌∷◌, [], ◌↔◌, MatchResult, None, Some, IsTrue};
+ghost use Rattle.std.specs.Prelude.{◌∷◌, [], ◌↔◌, IsTrue};
+ghost use Rattle.segment_ops.specs.Results.{HasResultOrFault};
 ghost use Rattle.vcode_base.specs.Kinds.{AreLengths, HasKind};
 ghost use Rattle.vcode_base.specs.declared.limits.TheConstants.{MOST_TOTAL, MOST_WORDS};
 ghost use Rattle.vcode_base.specs.declared.kind.Kind.TheVariants.{Segdes};
-ghost use Rattle.vcode_base.specs.Meaning.{segmented_fault, segmented_result};
+ghost use Rattle.vcode_base.specs.Meaning.{segmented_result};
 ghost use Rattle.vcode_base.specs.Segments.{total};
 ghost use Rattle.vcode_base.specs.declared.op.Segmented.TheVariants.{MakeSegdes, Lengths};
 
@@ -55,11 +56,7 @@ pub(crate) fn end_of(descriptor: &[i64], segment: usize, begin: usize) -> usize
 /// wrapping, is above 4,294,967,295. Then `out` holds no result.
 pub(crate) fn make_descriptor(lengths: &[i64], out: &mut [i64]) -> Result<(), DataFault>
     requires room { length out.old ≡ length lengths.now }
-    ensures { let operands = lengths.now ∷ []
-        in MatchResult result
-        (λ _. (segmented_fault MakeSegdes operands ≡ None)
-        × (out.new ≡ segmented_result MakeSegdes operands))
-        (λ fault. segmented_fault MakeSegdes operands ≡ Some fault) }
+    ensures { HasResultOrFault MakeSegdes (lengths.now ∷ []) result out.new }
 {
     if copy_lengths(lengths, out) {
         Ok(())

@@ -1,6 +1,6 @@
-ghost use Rattle.std.specs.Prelude.{◌≡◌, length, [], ◌∷◌, MatchResult, None, Some};
+ghost use Rattle.std.specs.Prelude.{◌≡◌, length, [], ◌∷◌};
+ghost use Rattle.segment_ops.specs.Results.{HasResultOrFault};
 ghost use Rattle.vcode_base.specs.Kinds.{AreLengths};
-ghost use Rattle.vcode_base.specs.Meaning.{segmented_result, segmented_fault};
 ghost use Rattle.vcode_base.specs.Segments.{total};
 ghost use Rattle.vcode_base.specs.declared.kind.Scalar.TheVariants.{Int};
 ghost use Rattle.vcode_base.specs.declared.op.Segmented.TheVariants.{Extract};
@@ -29,11 +29,7 @@ pub(crate) fn extract(
     requires whole { length elements.now ≡ total descriptor.now }
     requires single { length indices.now ≡ length descriptor.now }
     requires room { length out.old ≡ length descriptor.now }
-    ensures { let operands = elements.now ∷ indices.now ∷ descriptor.now ∷ []
-        in MatchResult result
-        (λ _. (segmented_fault (Extract Int) operands ≡ None)
-        × (out.new ≡ segmented_result (Extract Int) operands))
-        (λ fault. segmented_fault (Extract Int) operands ≡ Some fault) }
+    ensures { HasResultOrFault (Extract Int) (elements.now ∷ indices.now ∷ descriptor.now ∷ []) result out.new }
 {
     let mut begin = 0;
     for segment in 0..descriptor.len() {

@@ -8,7 +8,7 @@ use crate::descriptors::{lengths, make_descriptor};
 use crate::distributions::{distribute, index};
 use crate::extractions::extract;
 use crate::gathers::back_permute;
-use crate::overlays::default_permute;
+use crate::overlays::overlay;
 use crate::packs::pack;
 use crate::permutations::permute;
 use crate::reductions::reduce;
@@ -47,7 +47,8 @@ pub fn fill(
         Segmented::Permute(_) => return permute(ops[0], ops[1], ops[2], first),
         Segmented::BackPermute(_) => return back_permute(ops[0], ops[1], ops[2], ops[3], first),
         Segmented::DefaultPermute(_) => {
-            return default_permute(ops[0], ops[1], ops[2], ops[3], ops[4], first);
+            first.copy_from_slice(ops[2]);
+            return overlay(ops[0], ops[1], ops[3], ops[4], first);
         }
         Segmented::Extract(_) => return extract(ops[0], ops[1], ops[2], first),
         Segmented::Replace(_) => return replace(ops[0], ops[1], ops[2], ops[3], first),

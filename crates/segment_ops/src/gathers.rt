@@ -1,7 +1,7 @@
-ghost use Rattle.std.specs.Prelude.{◌≡◌, ◌≤◌, length, [], ◌∷◌, map, true, false, MatchResult, None, Some};
+ghost use Rattle.std.specs.Prelude.{◌≡◌, ◌≤◌, length, [], ◌∷◌, map, true, false, MatchResult};
 ghost use Rattle.segment_ops.specs.Indices.{some_outside};
+ghost use Rattle.segment_ops.specs.Results.{HasResultOrFault};
 ghost use Rattle.vcode_base.specs.Kinds.{AreLengths};
-ghost use Rattle.vcode_base.specs.Meaning.{segmented_result, segmented_fault};
 ghost use Rattle.vcode_base.specs.Segments.{total, element};
 ghost use Rattle.vcode_base.specs.declared.fault.DataFault.TheVariants.{BadIndex};
 ghost use Rattle.vcode_base.specs.declared.kind.Scalar.TheVariants.{Int};
@@ -36,11 +36,8 @@ pub(crate) fn back_permute(
     requires whole { length elements.now ≡ total source.now }
     requires index_whole { length indices.now ≡ total target.now }
     requires room { length out.old ≡ total target.now }
-    ensures { let operands = elements.now ∷ indices.now ∷ source.now ∷ target.now ∷ []
-        in MatchResult result
-        (λ _. (segmented_fault (BackPermute Int) operands ≡ None)
-        × (out.new ≡ segmented_result (BackPermute Int) operands))
-        (λ fault. segmented_fault (BackPermute Int) operands ≡ Some fault) }
+    ensures { HasResultOrFault (BackPermute Int)
+        (elements.now ∷ indices.now ∷ source.now ∷ target.now ∷ []) result out.new }
 {
     let mut begin = 0;
     let mut target_begin = 0;

@@ -10,44 +10,6 @@ use crate::descriptors::end_of;
 use crate::scatters::scatter;
 use vcode_base::DataFault;
 
-/// `DPERMUTE`: writes the default with each element at its index.
-///
-/// `elements` and `indices` are in the segments of `source`, `default` and `out` in those of
-/// `target`, and an index counts in the segment of `default` with the number of its own. The
-/// clauses name INT, and BOOL means the same.
-///
-/// # Errors
-///
-/// [`BadIndex`](DataFault::BadIndex) if an index is outside that segment, else
-/// [`IndexTwice`](DataFault::IndexTwice) if two of a segment are equal. Then `out` holds no
-/// result.
-pub(crate) fn default_permute(
-    elements: &[i64],
-    indices: &[i64],
-    default: &[i64],
-    source: &[i64],
-    target: &[i64],
-    out: &mut [i64],
-) -> Result<(), DataFault>
-    requires source_lengths { AreLengths source.now }
-    requires source_small { total source.now ≤ MOST_TOTAL }
-    requires target_lengths { AreLengths target.now }
-    requires target_small { total target.now ≤ MOST_TOTAL }
-    requires matched { length source.now ≡ length target.now }
-    requires whole { length elements.now ≡ total source.now }
-    requires index_whole { length indices.now ≡ total source.now }
-    requires default_whole { length default.now ≡ total target.now }
-    requires room { length out.old ≡ total target.now }
-    ensures { let operands = elements.now ∷ indices.now ∷ default.now ∷ source.now ∷ target.now ∷ []
-        in MatchResult result
-        (λ _. (segmented_fault (DefaultPermute Int) operands ≡ None)
-        × (out.new ≡ segmented_result (DefaultPermute Int) operands))
-        (λ fault. segmented_fault (DefaultPermute Int) operands ≡ Some fault) }
-{
-    out.copy_from_slice(default);
-    overlay(elements, indices, source, target, out)
-}
-
 /// `DPERMUTE` into the words of its default: writes each element over the word at its index, and leaves
 /// the other words of `out` as they are.
 ///

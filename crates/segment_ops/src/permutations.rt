@@ -1,6 +1,6 @@
-ghost use Rattle.std.specs.Prelude.{◌≡◌, ◌≤◌, length, [], ◌∷◌, MatchResult, None, Some};
+ghost use Rattle.std.specs.Prelude.{◌≡◌, ◌≤◌, length, [], ◌∷◌};
+ghost use Rattle.segment_ops.specs.Results.{HasResultOrFault};
 ghost use Rattle.vcode_base.specs.Kinds.{AreLengths};
-ghost use Rattle.vcode_base.specs.Meaning.{segmented_result, segmented_fault};
 ghost use Rattle.vcode_base.specs.Segments.{total};
 ghost use Rattle.vcode_base.specs.declared.kind.Scalar.TheVariants.{Int};
 ghost use Rattle.vcode_base.specs.declared.op.Segmented.TheVariants.{Permute};
@@ -31,11 +31,7 @@ pub(crate) fn permute(
     requires whole { length elements.now ≡ total descriptor.now }
     requires index_whole { length indices.now ≡ total descriptor.now }
     requires room { length out.old ≡ length elements.now }
-    ensures { let operands = elements.now ∷ indices.now ∷ descriptor.now ∷ []
-        in MatchResult result
-        (λ _. (segmented_fault (Permute Int) operands ≡ None)
-        × (out.new ≡ segmented_result (Permute Int) operands))
-        (λ fault. segmented_fault (Permute Int) operands ≡ Some fault) }
+    ensures { HasResultOrFault (Permute Int) (elements.now ∷ indices.now ∷ descriptor.now ∷ []) result out.new }
 {
     // If there is a result, each place is named, and so none of these zeros is in it.
     out.fill(0);

@@ -1,6 +1,6 @@
-ghost use Rattle.std.specs.Prelude.{◌≡◌, length, [], ◌∷◌, MatchResult, None, Some};
+ghost use Rattle.std.specs.Prelude.{◌≡◌, length, [], ◌∷◌};
+ghost use Rattle.segment_ops.specs.Results.{HasResultOrFault};
 ghost use Rattle.vcode_base.specs.Kinds.{AreLengths};
-ghost use Rattle.vcode_base.specs.Meaning.{segmented_result, segmented_fault};
 ghost use Rattle.vcode_base.specs.Segments.{total};
 ghost use Rattle.vcode_base.specs.declared.kind.Scalar.TheVariants.{Int};
 ghost use Rattle.vcode_base.specs.declared.op.Segmented.TheVariants.{Replace};
@@ -31,11 +31,8 @@ pub(crate) fn replace(
     requires single { length indices.now ≡ length descriptor.now }
     requires single_replacement { length replacements.now ≡ length descriptor.now }
     requires room { length out.old ≡ length elements.now }
-    ensures { let operands = elements.now ∷ indices.now ∷ replacements.now ∷ descriptor.now ∷ []
-        in MatchResult result
-        (λ _. (segmented_fault (Replace Int) operands ≡ None)
-        × (out.new ≡ segmented_result (Replace Int) operands))
-        (λ fault. segmented_fault (Replace Int) operands ≡ Some fault) }
+    ensures { HasResultOrFault (Replace Int)
+        (elements.now ∷ indices.now ∷ replacements.now ∷ descriptor.now ∷ []) result out.new }
 {
     out.copy_from_slice(elements);
     let mut begin = 0;
