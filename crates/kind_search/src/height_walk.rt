@@ -4,8 +4,8 @@ use crate::fault::{Obstacle, PlacedFault};
 use crate::paths::Paths;
 use std::alloc::{AllocError, Allocator};
 use vcode_base::limits::MOST_KINDS;
-use vcode_base::{Instr, Instruction, StackMove};
-use vcode_reader::{CodeItem, CodeLine};
+use vcode_base::{Kind, StackMove};
+use verifier::{AbstractStack, Calls};
 
 /// The height with which a function is taken to begin: it may take as many entries as a signature may have.
 pub(crate) const BEGIN: usize = MOST_KINDS;
@@ -47,9 +47,8 @@ impl<A: Allocator> Reach<A> {
 /// Walks through bodies, one after the other. A path is its height.
 #[derive(Drop)]
 pub(crate) struct HeightWalk<A: Allocator> {
-    /// The place of the function, and the line.
+    /// The place of the function.
     function: usize,
-    line: u64,
     paths: Paths<usize, A>,
     found: Reach<A>,
     /// For each function where its call is among those that were found, if it has one.
@@ -69,7 +68,6 @@ impl<A: Allocator + Copy> HeightWalk<A> {
     pub(crate) fn new(alloc: A, functions: usize) -> Result<HeightWalk<A>, AllocError> {
         Ok(HeightWalk {
             function: 0,
-            line: 0,
             paths: Paths::new(alloc),
             found: Reach::new(alloc),
             slots: vec![in alloc; 0; functions]?,
@@ -97,91 +95,24 @@ impl<A: Allocator> HeightWalk<A> {
         self.found.waits_for = None;
     }
 
-    /// A line of the body, with the place of the function that it calls, if it calls one that is there. `ends` has the
-    /// height at the RET of each function that is known to return.
-    ///
-    /// A fault of kinds isn't one here: the walk by kinds comes to the same line. The path ends there.
-    ///
-    /// # Errors
-    ///
-    /// A path takes more entries than a signature may have operands.
-    pub(crate) fn step(
-        &mut self,
-        ends: &[Option<usize>],
-        callee: Option<usize>,
-        line: &CodeLine<'_>,
-    ) -> Result<(), PlacedFault> {
-        self.line = line.number;
-        match &line.item {
-            CodeItem::Do(Instr::Call(_)) => self.call(ends, callee),
-            CodeItem::Do(instruction) => self.run(instruction),
-            CodeItem::If => {
-                self.change(1, 0)?;
-                Ok(self.paths.begin_if()?)
-            }
-            CodeItem::Else => {
-                self.paths.begin_else();
-                Ok(())
-            }
-            CodeItem::Endif => {
-                let (first, second) = self.paths.end_if();
-                self.paths.path = joined(first, second);
-                Ok(())
-            }
-        }
-    }
-
-    /// An instruction that calls nothing.
-    fn run(&mut self, instruction: &Instruction<'_>) -> Result<(), PlacedFault> {
-        if let Instr::Move(motion, lower, upper) = instruction {
-            let lower = usize::from(*lower);
-            let moved = lower + usize::from(*upper);
-            return match motion {
-                StackMove::Copy => self.change(moved, moved + lower),
-                StackMove::MoveToTop => self.change(moved, moved),
-                StackMove::Pop => self.change(moved, moved - lower),
-            };
-        }
-        let op = instruction.op();
-        self.change(op.operand_kinds().len(), op.result_kinds().len())
-    }
-
     /// The path takes `takes` entries off and then puts `gives` on.
-    fn change(&mut self, takes: usize, gives: usize) -> Result<(), PlacedFault> {
+    fn change(&mut self, takes: usize, gives: usize, line: u64) -> Result<(), PlacedFault> {
         let Some(height) = self.paths.path else {
             return Ok(());
         };
         let Some(below) = height.checked_sub(takes) else {
-            return Err(self.many_operands());
+            return Err(self.many_operands(line));
         };
         self.found.lowest = self.found.lowest.min(below);
         self.paths.path = Some(below.saturating_add(gives));
         Ok(())
     }
 
-    /// A CALL. The path ends if the function isn't known to return, or isn't there.
-    fn call(&mut self, ends: &[Option<usize>], callee: Option<usize>) -> Result<(), PlacedFault> {
-        let (Some(height), Some(callee)) = (self.paths.path.take(), callee) else {
-            return Ok(());
-        };
-        let Some(Some(end)) = ends.get(callee) else {
-            self.found.waits_for = Some(callee);
-            return Ok(());
-        };
-        self.add_call(callee, height)?;
-        self.paths.path = height.saturating_add(*end).checked_sub(BEGIN);
-        match self.paths.path {
-            Some(_) => Ok(()),
-            None => Err(self.many_operands()),
-        }
-    }
-
     /// Adds a call at this height.
-    fn add_call(&mut self, callee: usize, height: usize) -> Result<(), AllocError> {
+    fn add_call(&mut self, callee: usize, height: usize, line: u64) -> Result<(), AllocError> {
         let Some(slot) = self.slots.get_mut(callee) else {
             return Ok(());
         };
-        let line = self.line;
         let call = Call {
             callee,
             height,
@@ -201,7 +132,81 @@ impl<A: Allocator> HeightWalk<A> {
     }
 
     /// That a path takes more entries than a signature may have operands.
-    fn many_operands(&self) -> PlacedFault {
-        PlacedFault::Function(Obstacle::ManyOperands, self.function, self.line)
+    fn many_operands(&self, line: u64) -> PlacedFault {
+        PlacedFault::Function(Obstacle::ManyOperands, self.function, line)
+    }
+}
+
+/// A fault of kinds isn't one here: the walk by kinds comes to the same line. The path ends there.
+impl<A: Allocator> AbstractStack for HeightWalk<A> {
+    /// A path takes more entries than a signature may have operands.
+    type Fault = PlacedFault;
+
+    ghost After = { λ _ _ _ _. Unit {0} };
+
+    fn replace(&mut self, takes: &[Kind], gives: &[Kind], line: u64) -> Result<(), PlacedFault> {
+        self.change(takes.len(), gives.len(), line)
+    }
+
+    fn shift(
+        &mut self,
+        motion: StackMove,
+        lower: u16,
+        upper: u16,
+        line: u64,
+    ) -> Result<(), PlacedFault> {
+        let lower = usize::from(lower);
+        let moved = lower + usize::from(upper);
+        match motion {
+            StackMove::Copy => self.change(moved, moved + lower, line),
+            StackMove::MoveToTop => self.change(moved, moved, line),
+            StackMove::Pop => self.change(moved, moved - lower, line),
+        }
+    }
+
+    fn begin_if(&mut self) -> Result<(), PlacedFault> {
+        Ok(self.paths.begin_if()?)
+    }
+
+    fn begin_else(&mut self) -> Result<(), PlacedFault> {
+        self.paths.begin_else();
+        Ok(())
+    }
+
+    fn end_if(&mut self, _line: u64) -> Result<(), PlacedFault> {
+        let (first, second) = self.paths.end_if();
+        self.paths.path = joined(first, second);
+        Ok(())
+    }
+}
+
+/// The height at the RET of each function, if that is known.
+#[derive(Drop)]
+pub(crate) struct Ends<A: Allocator>(pub Vec<Option<usize>, A>);
+
+/// The path ends at a CALL of a function that isn't known to return, or isn't there.
+impl<A: Allocator> Calls<HeightWalk<A>> for Ends<A> {
+    ghost AfterCall = { λ _ _ _ _ _ _ _. Unit {0} };
+
+    fn call(
+        &self,
+        walk: &mut HeightWalk<A>,
+        callee: Option<usize>,
+        _name: &[u8],
+        line: u64,
+    ) -> Result<(), PlacedFault> {
+        let (Some(height), Some(callee)) = (walk.paths.path.take(), callee) else {
+            return Ok(());
+        };
+        let Some(Some(end)) = self.0.get(callee) else {
+            walk.found.waits_for = Some(callee);
+            return Ok(());
+        };
+        walk.add_call(callee, height, line)?;
+        walk.paths.path = height.saturating_add(*end).checked_sub(BEGIN);
+        match walk.paths.path {
+            Some(_) => Ok(()),
+            None => Err(walk.many_operands(line)),
+        }
     }
 }

@@ -3,10 +3,11 @@
 use crate::agenda::Agenda;
 use crate::call_graph::CallGraph;
 use crate::fault::{Obstacle, PlacedFault};
-use crate::height_walk::{BEGIN, Call, HeightWalk, Reach};
+use crate::height_walk::{BEGIN, Call, Ends, HeightWalk, Reach};
 use std::alloc::{AllocError, Allocator};
 use vcode_base::limits::MOST_KINDS;
 use vcode_reader::{Function, Program};
+use verifier::walk_line;
 
 /// With how many entries each function of a program returns. A height is a number of entries; each function is taken
 /// to begin at the height [`BEGIN`].
@@ -15,8 +16,7 @@ pub(crate) struct Heights<'a, A: Allocator> {
     alloc: A,
     program: &'a Program<A>,
     graph: &'a CallGraph<A>,
-    /// The height at the RET of each function, if that is known.
-    ends: Vec<Option<usize>, A>,
+    ends: Ends<A>,
     /// What the last walk through each body has found.
     reaches: Vec<Reach<A>, A>,
     /// The functions that are to be walked through.
@@ -62,7 +62,7 @@ impl<'a, A: Allocator + Copy> Heights<'a, A> {
             alloc,
             program,
             graph,
-            ends: vec![in alloc; None; count]?,
+            ends: Ends(vec![in alloc; None; count]?),
             reaches: no_reaches(alloc, count)?,
             agenda: Agenda::all(alloc, graph)?,
             walk: HeightWalk::new(alloc, count)?,
@@ -78,7 +78,7 @@ impl<'a, A: Allocator + Copy> Heights<'a, A> {
     ///
     /// A function that doesn't fit this assumption.
     pub(crate) fn assume_all(&mut self) -> Result<(), PlacedFault> {
-        for _ in 0..self.ends.len() {
+        for _ in 0..self.ends.0.len() {
             let Some(function) = self.waiting() else {
                 break;
             };
@@ -145,8 +145,7 @@ impl<'a, A: Allocator + Copy> Heights<'a, A> {
             let Some(line) = function.item(at) else {
                 break;
             };
-            let callee = self.program.callee(place, at);
-            self.walk.step(&self.ends, callee, &line)?;
+            walk_line(&mut self.walk, &self.ends, self.program, place, at, &line)?;
         }
         Ok(())
     }
@@ -154,7 +153,7 @@ impl<'a, A: Allocator + Copy> Heights<'a, A> {
     /// A function is known to return at this height, so its callers at whose CALLs a path ended are to be walked
     /// through again.
     fn learn(&mut self, function: usize, height: usize) {
-        if let Some(end) = self.ends.get_mut(function) {
+        if let Some(end) = self.ends.0.get_mut(function) {
             *end = Some(height);
         }
         for caller in self.graph.callers(function) {
@@ -168,7 +167,7 @@ impl<'a, A: Allocator + Copy> Heights<'a, A> {
 impl<'a, A: Allocator> Heights<'a, A> {
     /// The height at the RET of a function, if that is known.
     pub(crate) fn end(&self, function: usize) -> Option<usize> {
-        *self.ends.get(function)?
+        *self.ends.0.get(function)?
     }
 
     /// The lowest height that a path through a function has reached.
@@ -209,7 +208,7 @@ impl<'a, A: Allocator> Heights<'a, A> {
 
     /// A function that returns on no path, if there is one: the first that waits for another waits for it in the end.
     pub(crate) fn waiting(&mut self) -> Option<usize> {
-        for place in self.first_waiting..self.ends.len() {
+        for place in self.first_waiting..self.ends.0.len() {
             self.first_waiting = place;
             if self.end(place).is_none() {
                 return Some(self.awaited(place));
@@ -221,7 +220,7 @@ impl<'a, A: Allocator> Heights<'a, A> {
     /// The function for which this one waits in the end.
     fn awaited(&self, function: usize) -> usize {
         let mut last = function;
-        for _ in 0..self.ends.len() {
+        for _ in 0..self.ends.0.len() {
             match self.waits_for(last) {
                 Some(next) if next != last => last = next,
                 _ => break,

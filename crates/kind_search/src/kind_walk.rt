@@ -4,10 +4,10 @@ use crate::classes::{Classes, KindId};
 use crate::fault::PathFault;
 use crate::paths::Paths;
 use crate::stacks::{Piece, Stack, Stacks};
+use signatures::Signatures;
 use std::alloc::{AllocError, Allocator};
-use vcode_base::{Instr, Instruction, Kind};
-use vcode_reader::CodeItem;
-use verifier::KindFault;
+use vcode_base::{Kind, StackMove};
+use verifier::{AbstractStack, Calls, KindFault};
 
 /// A walk by kinds through bodies, one after the other. An entry of a stack is the number of its kind. What a CALL and
 /// a RET do is up to who walks. Nothing changes after the end of a path.
@@ -51,7 +51,7 @@ impl<A: Allocator> KindWalk<A> {
     /// The walk through a body begins with a stack of these kinds.
     pub fn begin_with(&mut self, operands: &[Kind]) -> Result<(), PathFault> {
         self.begin(Piece { from: 0, count: 0 })?;
-        self.replace(&[], operands)
+        self.replace_kinds(&[], operands)
     }
 
     /// The stack, unless the path has ended.
@@ -69,33 +69,8 @@ impl<A: Allocator> KindWalk<A> {
         self.stacks.entries_of(stack)
     }
 
-    /// A line of a body, but for CALL. A RET changes nothing.
-    pub fn step(&mut self, item: &CodeItem<Instruction<'_>>) -> Result<(), PathFault> {
-        match item {
-            CodeItem::Do(instruction) => self.run(instruction),
-            CodeItem::If => self.begin_if(),
-            CodeItem::Else => {
-                self.paths.begin_else();
-                Ok(())
-            }
-            CodeItem::Endif => self.end_if(),
-        }
-    }
-
-    /// An instruction that calls nothing.
-    fn run(&mut self, instruction: &Instruction<'_>) -> Result<(), PathFault> {
-        let Instr::Move(motion, lower, upper) = instruction else {
-            let op = instruction.op();
-            return self.replace(op.operand_kinds(), op.result_kinds());
-        };
-        match &mut self.paths.path {
-            Some(stack) => self.stacks.shift(stack, *motion, *lower, *upper),
-            None => Ok(()),
-        }
-    }
-
     /// Takes entries of these kinds off the stack, and then puts entries of those kinds on it.
-    pub fn replace(&mut self, takes: &[Kind], gives: &[Kind]) -> Result<(), PathFault> {
+    fn replace_kinds(&mut self, takes: &[Kind], gives: &[Kind]) -> Result<(), PathFault> {
         if let Some(stack) = &mut self.paths.path {
             self.stacks.take_kinds(&mut self.classes, stack, takes)?;
             self.stacks.put_kinds(stack, gives)?;
@@ -114,35 +89,11 @@ impl<A: Allocator> KindWalk<A> {
 
     /// Takes entries of these kinds off the stack, which may have no others.
     pub fn check_end(&mut self, kinds: &[Kind]) -> Result<(), PathFault> {
-        self.replace(kinds, &[])?;
+        self.replace_kinds(kinds, &[])?;
         match self.paths.path {
             Some(stack) if stack.height > 0 => Err(PathFault::Refused(KindFault::ResultDiffers)),
             _ => Ok(()),
         }
-    }
-
-    /// An IF.
-    fn begin_if(&mut self) -> Result<(), PathFault> {
-        self.replace(&[Kind::Bool], &[])?;
-        let mut lowest = 0;
-        if let Some(stack) = &mut self.paths.path {
-            lowest = stack.lowest;
-            stack.lowest = stack.height;
-        }
-        self.lowest.push(lowest)?;
-        self.paths.begin_if()?;
-        Ok(())
-    }
-
-    /// An ENDIF.
-    fn end_if(&mut self) -> Result<(), PathFault> {
-        let lowest = self.lowest.pop().unwrap_or(0);
-        let (first, second) = self.paths.end_if();
-        self.paths.path = self.joined(first, second)?;
-        if let Some(stack) = &mut self.paths.path {
-            stack.lowest = stack.lowest.min(lowest);
-        }
-        Ok(())
     }
 
     /// The path after an IF whose parts end so.
@@ -159,5 +110,70 @@ impl<A: Allocator> KindWalk<A> {
             Some(stack) if self.stacks.known == 0 => Ok(Some(stack)),
             Some(_) => Ok(Some(self.stacks.merge(&mut self.classes, one, other)?)),
         }
+    }
+}
+
+impl<A: Allocator> AbstractStack for KindWalk<A> {
+    type Fault = PathFault;
+
+    ghost After = { λ _ _ _ _. Unit {0} };
+
+    fn replace(&mut self, takes: &[Kind], gives: &[Kind], _line: u64) -> Result<(), PathFault> {
+        self.replace_kinds(takes, gives)
+    }
+
+    fn shift(
+        &mut self,
+        motion: StackMove,
+        lower: u16,
+        upper: u16,
+        _line: u64,
+    ) -> Result<(), PathFault> {
+        match &mut self.paths.path {
+            Some(stack) => self.stacks.shift(stack, motion, lower, upper),
+            None => Ok(()),
+        }
+    }
+
+    fn begin_if(&mut self) -> Result<(), PathFault> {
+        let mut lowest = 0;
+        if let Some(stack) = &mut self.paths.path {
+            lowest = stack.lowest;
+            stack.lowest = stack.height;
+        }
+        self.lowest.push(lowest)?;
+        self.paths.begin_if()?;
+        Ok(())
+    }
+
+    fn begin_else(&mut self) -> Result<(), PathFault> {
+        self.paths.begin_else();
+        Ok(())
+    }
+
+    fn end_if(&mut self, _line: u64) -> Result<(), PathFault> {
+        let lowest = self.lowest.pop().unwrap_or(0);
+        let (first, second) = self.paths.end_if();
+        self.paths.path = self.joined(first, second)?;
+        if let Some(stack) = &mut self.paths.path {
+            stack.lowest = stack.lowest.min(lowest);
+        }
+        Ok(())
+    }
+}
+
+/// A CALL of a function that has no signature changes nothing.
+impl<A: Allocator> Calls<KindWalk<A>> for Signatures<A> {
+    ghost AfterCall = { λ _ _ _ _ _ _ _. Unit {0} };
+
+    fn call(
+        &self,
+        walk: &mut KindWalk<A>,
+        _callee: Option<usize>,
+        name: &[u8],
+        _line: u64,
+    ) -> Result<(), PathFault> {
+        let (takes, gives) = self.get(name).unwrap_or((&[], &[]));
+        walk.replace_kinds(takes, gives)
     }
 }

@@ -8,9 +8,9 @@ use crate::shapes::Shape;
 use crate::stacks::Piece;
 use signatures::FunctionType;
 use std::alloc::{AllocError, Allocator};
-use vcode_base::{Instr, Instruction, Kind};
-use vcode_reader::{CodeItem, Function, Program};
-use verifier::KindFault;
+use vcode_base::Kind;
+use vcode_reader::{Function, Program};
+use verifier::{Calls, KindFault, walk_line};
 
 /// What a function takes and gives.
 #[derive(Clone, Copy)]
@@ -77,6 +77,36 @@ fn open_functions<A: Allocator>(
     Ok((functions, next))
 }
 
+/// The operands and the results of the function at this place, if it is known to return.
+fn arrow_of(functions: &[FunctionKinds], place: usize) -> Option<(Piece, Results)> {
+    let function = functions.get(place)?;
+    Some((function.operands, function.results?))
+}
+
+/// The path ends at a CALL of a function that isn't known to return.
+impl<A: Allocator> Calls<KindWalk<A>> for Vec<FunctionKinds, A> {
+    ghost AfterCall = { λ _ _ _ _ _ _ _. Unit {0} };
+
+    fn call(
+        &self,
+        walk: &mut KindWalk<A>,
+        callee: Option<usize>,
+        _name: &[u8],
+        _line: u64,
+    ) -> Result<(), PathFault> {
+        let Some(callee) = callee else {
+            return Err(PathFault::Refused(KindFault::UnknownFunction));
+        };
+        match arrow_of(self.as_slice(), callee) {
+            Some((operands, results)) => walk.replace_piece(operands, results.given),
+            None => {
+                walk.end_path();
+                Ok(())
+            }
+        }
+    }
+}
+
 impl<'a, A: Allocator + Copy> Kinds<'a, A> {
     /// The kinds of functions of these shapes. A stack may have at most `most_entries` entries.
     ///
@@ -121,7 +151,7 @@ impl<'a, A: Allocator + Copy> Kinds<'a, A> {
 
     /// What the function at this place takes and gives, with INT for kinds that are open.
     pub(crate) fn function_type(&mut self, place: usize) -> Result<FunctionType<A>, PlacedFault> {
-        match self.arrow(place) {
+        match arrow_of(self.functions.as_slice(), place) {
             Some((operands, results)) => {
                 let operands = self.kinds_of(operands)?;
                 let results = self.kinds_of(results.open)?;
@@ -151,12 +181,6 @@ impl<'a, A: Allocator> Kinds<'a, A> {
         }
     }
 
-    /// The operands and the results of the function at this place, if it is known to return.
-    fn arrow(&self, place: usize) -> Option<(Piece, Results)> {
-        let function = self.functions.get(place)?;
-        Some((function.operands, function.results?))
-    }
-
     /// Walks through the body of the function at this place.
     fn walk(&mut self, place: usize, function: &Function<A>) -> Result<(), PlacedFault> {
         let Some(FunctionKinds { operands, .. }) = self.functions.get(place).copied() else {
@@ -170,41 +194,22 @@ impl<'a, A: Allocator> Kinds<'a, A> {
             let Some(line) = function.item(at) else {
                 break;
             };
-            let callee = self.program.callee(place, at);
             last = line.number;
-            if let Err(fault) = self.step(callee, &line.item) {
+            if let Err(fault) = walk_line(
+                &mut self.walk,
+                &self.functions,
+                self.program,
+                place,
+                at,
+                &line,
+            ) {
+                let callee = self.program.callee(place, at);
                 return Err(self.fault_at(fault, place, callee, last));
             }
         }
         match self.finish(place) {
             Ok(()) => Ok(()),
             Err(fault) => Err(self.fault_at(fault, place, None, last)),
-        }
-    }
-
-    /// A line of a body, with the place of the function that it calls, if it calls one.
-    fn step(
-        &mut self,
-        callee: Option<usize>,
-        item: &CodeItem<Instruction<'_>>,
-    ) -> Result<(), PathFault> {
-        match (item, callee) {
-            (CodeItem::Do(Instr::Call(_)), Some(callee)) => self.call(callee),
-            (CodeItem::Do(Instr::Call(_)), None) => {
-                Err(PathFault::Refused(KindFault::UnknownFunction))
-            }
-            _ => self.walk.step(item),
-        }
-    }
-
-    /// A CALL. The path ends if the function isn't known to return.
-    fn call(&mut self, callee: usize) -> Result<(), PathFault> {
-        match self.arrow(callee) {
-            Some((operands, results)) => self.walk.replace_piece(operands, results.given),
-            None => {
-                self.walk.end_path();
-                Ok(())
-            }
         }
     }
 

@@ -11,7 +11,7 @@
 //! 3. `kinds` walks once through each body on a stack of kinds. Those of operands are open at first. Instructions and
 //!    CALLs decide them. A kind that is open in the end may be any, and is INT.
 //!
-//! [`KindWalk`], by which `kinds` walks, serves also those who know all signatures, and ask which line made an entry.
+//! [`KindWalk`], the stack of `kinds`, serves also those who know all signatures, and ask which line made an entry.
 //!
 //! The contracts here say that the search is safe and ends, and nothing of what it finds.
 #![tactic(auto)]

@@ -7,6 +7,7 @@ use signatures::Signatures;
 use std::alloc::{AllocError, Global};
 use vcode_base::{Instr, Instruction, Kind, Op};
 use vcode_reader::{CodeItem, CodeLine, Function, Program};
+use verifier::walk_line;
 
 /// An entry of the stack before a job runs: its kind, and the line that makes it.
 #[derive(Clone, Copy, Drop, PartialEq)]
@@ -103,24 +104,24 @@ impl Walk {
         self.walk.add_known()
     }
 
-    /// A line of a function that gives these kinds.
+    /// The line at this place of the function at that place of the program, which gives these kinds.
     fn step(
         &mut self,
+        program: &Program<Global>,
         signatures: &Signatures<Global>,
+        function: usize,
         gives: &[Kind],
+        place: usize,
         line: &CodeLine<'_>,
     ) -> Result<(), PathFault> {
         // An ELSE may be on an earlier line, that of its IF.
         if !matches!(&line.item, CodeItem::Else) {
             self.go_to(line.number)?;
         }
+        walk_line(&mut self.walk, signatures, program, function, place, line)?;
         match &line.item {
-            CodeItem::Do(Instr::Call(name)) => {
-                let (takes, gives) = arrow_of(signatures, name.as_slice());
-                self.walk.replace(takes, gives)
-            }
             CodeItem::Do(Instr::Return) => self.walk.check_end(gives),
-            item => self.walk.step(item),
+            _ => Ok(()),
         }
     }
 
@@ -180,7 +181,7 @@ fn misfit_in(
         let (Some(line), Some(stack)) = (function.item(at), walk.walk.path()) else {
             return Ok(None);
         };
-        let (stack, clash) = match walk.step(signatures, gives, &line) {
+        let (stack, clash) = match walk.step(program, signatures, place, gives, at, &line) {
             Ok(()) => continue,
             Err(PathFault::PartsDiffer(first, second)) => {
                 (first, Clash::Parts(walk.entries(alloc, second)?))

@@ -13,10 +13,13 @@
 //! before operands of `MAIN`; at one `CALL` an unknown function before a missing signature, before missing
 //! entries, before entries of other kinds.
 //!
+//! **Walks.** [`walk_line`] does what a line does to any [`AbstractStack`]. That of the verifier has kinds.
+//! Those who look for signatures, or for the line that made an entry, have stacks of their own.
+//!
 //! `specs/Kinded` says when a program is well kinded, as a relation by cases on its tree; `specs/First`
-//! what its first fault is; `specs/Typed` what a [`Verified`] program keeps: for each function, by its
-//! place, the kinds that it takes and gives. [`laws`] says that there is no fault exactly if the program is
-//! well kinded.
+//! what its first fault is; `specs/Steps` what a line does to a stack; `specs/Typed` what a [`Verified`]
+//! program keeps: for each function, by its place, the kinds that it takes and gives. [`laws`] says that
+//! there is no fault exactly if the program is well kinded.
 #![tactic(auto)]
 
 mod fault;
@@ -26,6 +29,8 @@ mod open_ifs;
 mod scope;
 mod stack;
 mod verified;
+mod walk;
 
 pub use fault::{KindFault, VerifyFault};
 pub use verified::{Verified, verify};
+pub use walk::{AbstractStack, Calls, walk_line};

@@ -1,48 +1,19 @@
 //! The kinds of a body, line by line.
 
-ghost use Rattle.std.specs.Prelude.{◌≡◌, ◌+◌, ◌≤◌, Ok, Err, Some, OnOk, MatchResult, [], ◌∷◌, length, slice_get};
+ghost use Rattle.std.specs.Prelude.{◌≡◌, ◌+◌, ◌≤◌, Ok, Err, Some, OnOk, MatchResult, length, slice_get};
 ghost use Rattle.vcode_base.specs.declared.instr.Instr.TheVariants.{Call};
-ghost use Rattle.vcode_base.specs.declared.kind.Kind.TheVariants as kind;
 ghost use Rattle.vcode_reader.specs.declared.line.CodeItem.TheVariants.{Do};
-ghost use Rattle.vcode_reader.specs.Callees.{callee_at, callee_of};
-ghost use Rattle.verifier.specs.First.{stack_after_arrow, stack_after_move, stack_after_call, stack_with_move};
-ghost use Rattle.verifier.specs.First.{arrow_of, stack_after_instruction};
-ghost use Rattle.verifier.specs.Walk.{state_with, state_after_if, state_after_endif};
-ghost use Rattle.verifier.specs.Walk.{state_after_line, state_after_lines, front_of, Goes};
+ghost use Rattle.vcode_reader.specs.Callees.{callee_of};
+ghost use Rattle.verifier.specs.First.{arrow_of, stack_with_move};
+ghost use Rattle.verifier.specs.Walk.{state_after_lines, front_of, Goes};
 
 use crate::fault::{KindFault, VerifyFault};
 use crate::scope::Scope;
 use crate::stack::KindStack;
+use crate::walk::{AbstractStack, Calls, walk_line};
 use std::alloc::{AllocError, Allocator};
-use vcode_base::{Instr, Instruction, Kind, StackMove};
-use vcode_reader::{CodeItem, CodeLine, Function};
-
-/// An instruction that takes and gives these entries.
-#[tactic(auto, using(crate::proofs::Keeping::same_tops), unfolding(crate::specs::First::stack_after_arrow))]
-#[inline(always)]
-fn replace<A: Allocator + Clone>(
-    stack: &mut KindStack<A>,
-    takes: &[Kind],
-    gives: &[Kind],
-    line: u64,
-) -> Result<(), VerifyFault>
-    ensures { Goes result stack.new
-        (state_with stack.old.kept (stack_after_arrow takes.now gives.now line stack.old.kinds)) }
-{
-    if takes.is_empty() {
-        stack.extend(gives)?;
-        return Ok(());
-    }
-    let len = stack.len();
-    if stack.replace_end(takes, gives)? {
-        return Ok(());
-    }
-    if len < takes.len() {
-        Err(VerifyFault::At(KindFault::MissingOperand, line))
-    } else {
-        Err(VerifyFault::At(KindFault::WrongKind, line))
-    }
-}
+use vcode_base::{Kind, StackMove};
+use vcode_reader::Function;
 
 /// Moves the entries above the first `below`, of which the first `lower` are the lower ones.
 #[tactic(auto, using(crate::proofs::Keeping::copied))]
@@ -64,26 +35,69 @@ fn place<A: Allocator + Clone>(
     }
 }
 
-/// A motion of the lower entries and of the upper ones that lie on them.
-#[tactic(auto, unfolding(crate::specs::First::stack_after_move))]
-#[inline(always)]
-fn shift<A: Allocator + Clone>(
-    stack: &mut KindStack<A>,
-    motion: StackMove,
-    lower: u16,
-    upper: u16,
-    line: u64,
-) -> Result<(), VerifyFault>
-    ensures { Goes result stack.new
-        (state_with stack.old.kept (stack_after_move motion lower upper line stack.old.kinds)) }
-{
-    let count = lower as usize + upper as usize;
-    if stack.len() < count {
-        return Err(VerifyFault::At(KindFault::MissingOperand, line));
+impl<A: Allocator + Clone> AbstractStack for KindStack<A> {
+    ghost use Rattle.verifier.specs.Walk.{StepGoes};
+
+    type Fault = VerifyFault;
+
+    ghost After = { StepGoes };
+
+    #[tactic(auto, using(crate::proofs::Keeping::same_tops), unfolding(crate::specs::First::stack_after_arrow))]
+    #[inline(always)]
+    fn replace(&mut self, takes: &[Kind], gives: &[Kind], line: u64) -> Result<(), VerifyFault> {
+        if takes.is_empty() {
+            self.extend(gives)?;
+            return Ok(());
+        }
+        let len = self.len();
+        if self.replace_end(takes, gives)? {
+            return Ok(());
+        }
+        if len < takes.len() {
+            Err(VerifyFault::At(KindFault::MissingOperand, line))
+        } else {
+            Err(VerifyFault::At(KindFault::WrongKind, line))
+        }
     }
-    let below = stack.len() - count;
-    place(stack, motion, below, lower as usize)?;
-    Ok(())
+
+    #[tactic(auto, unfolding(crate::specs::First::stack_after_move))]
+    #[inline(always)]
+    fn shift(
+        &mut self,
+        motion: StackMove,
+        lower: u16,
+        upper: u16,
+        line: u64,
+    ) -> Result<(), VerifyFault> {
+        let count = lower as usize + upper as usize;
+        if self.len() < count {
+            return Err(VerifyFault::At(KindFault::MissingOperand, line));
+        }
+        let below = self.len() - count;
+        place(self, motion, below, lower as usize)?;
+        Ok(())
+    }
+
+    #[inline(always)]
+    fn begin_if(&mut self) -> Result<(), VerifyFault> {
+        self.keep()?;
+        Ok(())
+    }
+
+    #[inline(always)]
+    fn begin_else(&mut self) -> Result<(), VerifyFault> {
+        self.swap()?;
+        Ok(())
+    }
+
+    #[tactic(auto, unfolding(crate::specs::First::stack_after_endif))]
+    fn end_if(&mut self, line: u64) -> Result<(), VerifyFault> {
+        if self.forget()? {
+            Ok(())
+        } else {
+            Err(VerifyFault::At(KindFault::ArmsDiffer, line))
+        }
+    }
 }
 
 /// What a `CALL` of this name takes and gives. Its callee is the place of the function with that name, if
@@ -94,8 +108,7 @@ fn arrow_of<'a, A: Allocator>(
     callee: Option<usize>,
     name: &[u8],
 ) -> Result<(&'a [Kind], &'a [Kind]), KindFault>
-    requires { callee ≡ callee_of scope.now.functions (Do (Call name.now)) }
-    ensures { MatchResult result
+    ensures { callee ≡ callee_of scope.now.functions (Do (Call name.now)) → MatchResult result
         (λ kinds. arrow_of scope.now name.now ≡ Ok (kinds.0.now, kinds.1.now))
         (λ fault. arrow_of scope.now name.now ≡ Err fault) }
 {
@@ -108,92 +121,23 @@ fn arrow_of<'a, A: Allocator>(
     }
 }
 
-#[inline(never)]
-fn call<A: Allocator + Clone>(
-    stack: &mut KindStack<A>,
-    scope: &Scope<A>,
-    callee: Option<usize>,
-    name: &[u8],
-    line: u64,
-) -> Result<(), VerifyFault>
-    requires { callee ≡ callee_of scope.now.functions (Do (Call name.now)) }
-    ensures { Goes result stack.new
-        (state_with stack.old.kept (stack_after_call (arrow_of scope.now name.now) line stack.old.kinds)) }
-{
-    match arrow_of(scope, callee, name) {
-        Ok((takes, gives)) => replace(stack, takes, gives, line),
-        Err(fault) => Err(VerifyFault::At(fault, line)),
-    }
-}
+impl<'a, A: Allocator + Clone> Calls<KindStack<A>> for Scope<'a, A> {
+    ghost use Rattle.verifier.specs.Walk.{CallGoes};
 
-#[inline(always)]
-fn apply<A: Allocator + Clone>(
-    stack: &mut KindStack<A>,
-    scope: &Scope<A>,
-    function: usize,
-    place: usize,
-    instruction: &Instruction<'_>,
-    line: u64,
-) -> Result<(), VerifyFault>
-    requires { callee_at scope.now.functions function place ≡ callee_of scope.now.functions (Do instruction.now) }
-    ensures { Goes result stack.new
-        (state_with stack.old.kept (stack_after_instruction scope.now instruction.now line stack.old.kinds)) }
-{
-    match instruction {
-        Instr::Move(motion, lower, upper) => shift(stack, *motion, *lower, *upper, line),
-        Instr::Call(name) => {
-            let callee = scope.callee(function, place);
-            call(stack, scope, callee, name.as_slice(), line)
-        }
-        _ => {
-            let op = instruction.op();
-            replace(stack, op.operand_kinds(), op.result_kinds(), line)
-        }
-    }
-}
+    ghost AfterCall = { CallGoes };
 
-fn begin_if<A: Allocator + Clone>(stack: &mut KindStack<A>, line: u64) -> Result<(), VerifyFault>
-    ensures { Goes result stack.new
-        (state_after_if stack.old.kept (stack_after_arrow (kind.Bool ∷ []) [] line stack.old.kinds)) }
-{
-    replace(stack, &[Kind::Bool], &[], line)?;
-    stack.keep()?;
-    Ok(())
-}
-
-#[tactic(auto, unfolding(crate::specs::First::stack_after_endif))]
-fn end_if<A: Allocator + Clone>(stack: &mut KindStack<A>, line: u64) -> Result<(), VerifyFault>
-    ensures { Goes result stack.new (state_after_endif stack.old.kept line stack.old.kinds) }
-{
-    if stack.forget()? {
-        Ok(())
-    } else {
-        Err(VerifyFault::At(KindFault::ArmsDiffer, line))
-    }
-}
-
-/// The line at this place of the function at that place of the program.
-#[inline(always)]
-fn check_line<A: Allocator + Clone>(
-    stack: &mut KindStack<A>,
-    scope: &Scope<A>,
-    function: usize,
-    place: usize,
-    line: &CodeLine<'_>,
-) -> Result<(), VerifyFault>
-    requires { callee_at scope.now.functions function place ≡ callee_of scope.now.functions line.now.item }
-    ensures { Goes result stack.new (state_after_line scope.now line.now.item line.now.number stack.old) }
-{
-    match &line.item {
-        CodeItem::Do(instruction) => {
-            apply(stack, scope, function, place, instruction, line.number)
+    #[inline(never)]
+    fn call(
+        &self,
+        stack: &mut KindStack<A>,
+        callee: Option<usize>,
+        name: &[u8],
+        line: u64,
+    ) -> Result<(), VerifyFault> {
+        match arrow_of(self, callee, name) {
+            Ok((takes, gives)) => stack.replace(takes, gives, line),
+            Err(fault) => Err(VerifyFault::At(fault, line)),
         }
-        CodeItem::If => begin_if(stack, line.number),
-        CodeItem::Else => {
-            stack.swap()?;
-            Ok(())
-        }
-        CodeItem::Endif => end_if(stack, line.number),
     }
 }
 
@@ -211,7 +155,7 @@ pub(crate) fn check_lines<A: Allocator + Clone>(
     let last = function.line_count() - 1;
     for place in 0..last {
         let line = function.item(place).unwrap();
-        match check_line(stack, scope, number, place, &line) {
+        match walk_line(stack, scope, scope.program(), number, place, &line) {
             Ok(()) => {}
             Err(fault) => return Err(fault),
         }

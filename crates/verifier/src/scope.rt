@@ -1,7 +1,6 @@
 //! What the CALLs of a program may name.
 
 ghost use Rattle.std.specs.Prelude.{◌≡◌, None, Some, MatchOption};
-ghost use Rattle.vcode_reader.specs.Callees.{callee_at};
 ghost use Rattle.signatures.specs.Signatures.{kinds_of};
 ghost use Rattle.verifier.specs.Kinded.{scope_of};
 
@@ -9,7 +8,7 @@ use signatures::Signatures;
 use std::alloc::Allocator;
 use std::marker::Model;
 use vcode_base::Kind;
-use vcode_reader::{Function, Program};
+use vcode_reader::Program;
 
 /// The functions of a program, and what functions of some names take and give.
 #[derive(Drop)]
@@ -45,18 +44,11 @@ impl<'a, A: Allocator> Scope<'a, A> {
         }
     }
 
-    /// The functions in the order of the text.
-    pub(crate) fn functions(&self) -> &'a [Function<A>]
-        ensures { result.now ≡ self.now.functions }
+    /// The program.
+    pub(crate) fn program(&self) -> &'a Program<A>
+        ensures { result.now.functions ≡ self.now.functions }
     {
-        self.program.functions()
-    }
-
-    /// The place of the function that the line at this place of that function calls, if there is one.
-    pub(crate) fn callee(&self, function: usize, place: usize) -> Option<usize>
-        ensures { result ≡ callee_at self.now.functions function place }
-    {
-        self.program.callee(function, place)
+        self.program
     }
 
     /// What the function of this name takes and gives; `None` if it has no signature.

@@ -149,7 +149,7 @@ fn check_program<A: Allocator + Clone>(
 fn check_functions<A: Allocator + Clone>(alloc: A, scope: &Scope<A>) -> Result<(), VerifyFault>
     ensures { Finds result (functions_fault scope.now scope.now.functions) }
 {
-    for (place, function) in scope.functions().iter().enumerate() {
+    for (place, function) in scope.program().functions().iter().enumerate() {
         match check_function(alloc.clone()?, scope, place, function) {
             Ok(()) => {}
             Err(fault) => return Err(fault),
