@@ -402,8 +402,8 @@ impl<A: Allocator> Stacks<A> {
         })
     }
 
-    /// The stack after an IF whose parts end with these two, which are of equal kinds: if the lines that put kinds are
-    /// told apart, an entry that differs becomes the number that an entry of its kind has from now on.
+    /// The stack after an IF whose parts end with these two, which are of equal kinds. If the lines that put kinds have
+    /// numbers of their own, an entry in which the two differ gets the number by which its kind is put from now on.
     pub(crate) fn merge(
         &mut self,
         classes: &mut Classes<A>,
