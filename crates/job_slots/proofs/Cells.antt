@@ -15,12 +15,12 @@ use Rattle.std.proofs.lemmas.List.{get_or-map, get_or-set_other, length-map, get
 use Rattle.std.proofs.lemmas.List.Elements.{All-nil, All-head, All-tail, All-weaker, All-map, All-cons}
 use Rattle.job_steps.specs.States.{has_tag, held_words, StackEntry, words_of}
 use Rattle.job_slots.specs.Holdings.{Cell, ids_of, entries_of, AreAlike, AreHeld, HoldStack, HoldNothing, HoldSomeStack}
-use Rattle.refcounts.specs.Laws.{SharesAreCounted, ReleasesAreCounted, ReleasesKeepBlocks, ReleaseStaysTidy}
+use Rattle.refcounts.specs.Laws.{SharesAreCounted, ReleasesAreCounted, ReleasesKeepBlocks}
 use Rattle.job_memory.specs.JobBlocks.{JobBlocks, AreOwn, ChangesOnlyOf, own_slots, with_memory}
-use Rattle.job_memory.specs.Laws.{ReleasesChangeOnlyTheirJob, BlocksChangeOnlyTheirJob, SharesChangeOnlyTheirJob}
-use Rattle.job_memory.specs.Laws.{ChangesJoin}
+use Rattle.job_memory.specs.Laws.{ReleasesChangeOnlyTheirJob}
 use Rattle.job_slots.proofs.Stacks.{named-reverse, times}
 use Rattle.job_slots.specs.Commits.{with_releases}
+use Rattle.job_slots.specs.Executions.{BlockLaws}
 
 -- ======== a memory's slots as a job sees them
 
@@ -378,17 +378,6 @@ are_there job memory ids stack h =
     })
 
 -- ======== cells that still hold a stack after a block was placed, and after references were shared or released
-
--- the laws of the blocks
-pub record BlockLaws : Type 0 where
-  pub shares_are_counted : SharesAreCounted
-  pub releases_are_counted : ReleasesAreCounted
-  pub releases_keep_blocks : ReleasesKeepBlocks
-  pub blocks_change_only_their_job : BlocksChangeOnlyTheirJob
-  pub shares_change_only_their_job : SharesChangeOnlyTheirJob
-  pub releases_change_only_their_job : ReleasesChangeOnlyTheirJob
-  pub changes_join : ChangesJoin
-  pub release_stays_tidy : ReleaseStaysTidy
 
 -- the words of a cell's block are its entry's
 abbrev HasWords : List Slot → Cell → Type 0

@@ -12,8 +12,8 @@ use Rattle.job_steps.specs.Steps.{vectors_of, held_at, Running, next_item, sourc
 use Rattle.job_steps.specs.Steps.{words_at, calls_after, progress_by, progress_past}
 use Rattle.job_slots.specs.Commits.{IsExchanged, blocks_after_taking, taken_ids, moved_ids, with_releases, CanTake}
 use Rattle.job_slots.specs.Commits.{held_under}
-use Rattle.job_slots.specs.Executions.{AreSettled, HeldIsCounted, AreFew, CanShare, CanSettle, HasSettled, IsCounted}
-use Rattle.job_slots.specs.Executions.{IsExecuted, CanExecute, StepsExecute}
+use Rattle.job_slots.specs.Executions.{AreExchanged, AreFew, BlockLaws, CanExchange, CanExecute, CanShare}
+use Rattle.job_slots.specs.Executions.{HasExchanged, HeldIsCounted, IsCounted, IsExecuted, StepsExecute}
 use Rattle.job_slots.specs.Holdings.{Cell, ids_of, entries_of, AreHeld, HoldStack}
 use Rattle.std.specs.Prelude.{All}
 use Rattle.std.proofs.lemmas.List.{append_assoc, drop-map, get_or-map, length-map, length-reverse}
@@ -28,7 +28,7 @@ use Rattle.job_steps.specs.Motions.{top_entries, operand_count, stack_after, sta
 use Rattle.job_slots.proofs.Stacks.{All-move, map-top, map-lower, reverse-cons, times, times_append, times_reverse}
 use Rattle.job_slots.proofs.Stacks.{times_top, map-stack_after, two_results, length_by_kinds, return_leaves}
 use Rattle.job_slots.proofs.Stacks.{All-reverse}
-use Rattle.job_slots.proofs.Cells.{Among, BlockLaws, IsPlaced, IsReleased, IsShared, placed_one, released, shared}
+use Rattle.job_slots.proofs.Cells.{Among, IsPlaced, IsReleased, IsShared, placed_one, released, shared}
 use Rattle.job_slots.proofs.Cells.{held_is_stack, own_are_tidy, named_here, named_sum, own_named, listed, seen_there}
 use Rattle.vcode_base.specs.Instructions.{op_of}
 use Rattle.vcode_reader.specs.Trees.{Item}
@@ -81,19 +81,19 @@ pub record NewCells (rule : Rule) (job : ℕ) (op : Op) (stack ids : List ℕ) (
 module _ (rule : Rule) (job : ℕ) (op : Op) (stack : List ℕ) (first second : List ℤ) (next : ℕ) (old new : JobBlocks)
   where
     pub new_cells : (kinds : List Kind) (ids : List ℕ) → length ids ≡ length kinds → length kinds ≤ 2 →
-        AreSettled rule job op first second stack ids old new →
+        AreExchanged rule job op first second stack ids old new →
         NewCells rule job op stack ids next (vectors_of kinds (first ∷ second ∷ [])) old new
-    new_cells [] [] same few settled = grind arith
-    new_cells (k ∷ []) (id ∷ []) same few settled =
+    new_cells [] [] same few exchanged = grind arith
+    new_cells (k ∷ []) (id ∷ []) same few exchanged =
         let entry : StackEntry = record { tag = next; value = record { kind = k; words = first } } in
         record {
           cells = record { id = id; entry = entry } ∷ [];
           ids_are = refl;
           entries_are = refl;
           count = refl;
-          are_committed = (new, settled, refl);
+          are_committed = (new, exchanged, refl);
         }
-    new_cells (k ∷ l ∷ []) (below ∷ top ∷ []) same few settled =
+    new_cells (k ∷ l ∷ []) (below ∷ top ∷ []) same few exchanged =
         let lower : StackEntry = record { tag = next; value = record { kind = k; words = first } } in
         let upper : StackEntry = record { tag = next + 1; value = record { kind = l; words = second } } in
         record {
@@ -101,9 +101,9 @@ module _ (rule : Rule) (job : ℕ) (op : Op) (stack : List ℕ) (first second : 
           ids_are = refl;
           entries_are = refl;
           count = refl;
-          are_committed = (settled.0, settled.1, (settled.2, settled.3, settled.4));
+          are_committed = (exchanged.0, exchanged.1, (exchanged.2, exchanged.3, exchanged.4));
         }
-    new_cells kinds ids same few settled = absurd (omega (arith, same, few))
+    new_cells kinds ids same few exchanged = absurd (omega (arith, same, few))
 
 -- an instruction changes no grant
 pub same_grants : (op : Op) (ids : List ℕ) (blocks : JobBlocks) →
@@ -394,8 +394,8 @@ module _ (laws : Laws) (signatures : List Signature) (task : Task) (verified : I
   values_are : vectors_of (result_kinds op) (first ∷ second ∷ []) ≡ results_of (question_of item s.stack)
   values_are = grind (arith, op, item)
 
-  can_settle : CanSettle job op t.cells old
-  can_settle =
+  can_exchange : CanExchange job op t.cells old
+  can_exchange =
       let n = length (ids_of holds.cells) in
       let small : n + n < 2 ^ 64 =
       omega (arith, at.cells, ap length holds.ids_are, is_reached.cells, task.limits.cells_in_range.1) in
@@ -407,7 +407,7 @@ module _ (laws : Laws) (signatures : List Signature) (task : Task) (verified : I
       }
 
   module _ (form : Rule) (ids : List ℕ) (new : JobBlocks) (u : TrackState ℕ)
-      (has : HasSettled form job op first second t.cells ids old new)
+      (has : HasExchanged form job op first second t.cells ids old new)
       (advances : Advances task.verified op flow ids
       (held_under task.rule job op t.cells old + length first + length second) t u) where
     made : NewCells form job op t.cells ids s.next (vectors_of (result_kinds op) (first ∷ second ∷ [])) old new
@@ -433,7 +433,7 @@ module _ (laws : Laws) (signatures : List Signature) (task : Task) (verified : I
   can_execute = record {
     two = two_results op;
     room = omega (arith, can.room, words_are);
-    can_settle = can_settle;
+    can_exchange = can_exchange;
     goes_past = record { unspent = can.unspent; deep = can.deep; cells = can.cells; follows = can.follows };
     flows = is_flow_of op (flag_of (question_of item s.stack));
     executes = executed;
@@ -451,6 +451,6 @@ executable laws job old task t op flow first second flying verified tidy answere
 -- the instruction is executed if blocks have its results and the track went past it
 pub executed_past : {job : ℕ} {old new : JobBlocks} {task : Task} {t u : TrackState ℕ} {op : Op} {flow : Flow}
     {first second : List ℤ} {form : Rule} {ids : List ℕ} {held : ℕ} → CanExecute job old task t op flow first second →
-    HasSettled form job op first second t.cells ids old new → held ≡ held_under task.rule job op t.cells old →
+    HasExchanged form job op first second t.cells ids old new → held ≡ held_under task.rule job op t.cells old →
     Advances task.verified op flow ids (held + length first + length second) t u → IsExecuted job old new task t u
 executed_past can has held_is advances = can.executes _ _ _ _ has (rw (← held_is) advances)

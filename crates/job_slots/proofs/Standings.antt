@@ -9,13 +9,15 @@ use Rattle.job_steps.specs.Tracks.{TrackState, functions_of}
 use Rattle.job_slots.specs.declared.status.Status.TheVariants.{Waiting}
 use Rattle.job_slots.specs.Laws.{RecalledIsShown}
 use Rattle.job_slots.specs.Slots.{SlotState, Shows, IsRunningSlot, IsWaitingSlot, IsFlyingSlot, standing_of, IsAfter}
+use Rattle.job_slots.specs.Slots.{GoesOn}
 use Rattle.job_slots.specs.Slots.{grant_by, standing_by}
 use Rattle.job_slots.proofs.Cells.{none_held}
 use Rattle.std.specs.Prelude.{is_some}
 use Rattle.job_steps.specs.Events.{next_standing, early_end, standing_after}
 use Rattle.job_steps.specs.declared.frame.Frame.{Frame}
-use Rattle.job_steps.specs.Frames.{IsSettled, StandAll}
+use Rattle.job_steps.specs.Frames.{AreActive, IsSettled, StandAll}
 use Rattle.job_steps.specs.Standings.{Standing, Live, InFlight, Ended}
+use Rattle.job_steps.specs.StepLaws.{StepsCanBegin}
 use Rattle.job_steps.specs.Steps.{Ending, Running, Progress, Over, Stuck, next_item}
 use Rattle.job_steps.specs.Tickets.{Asked}
 use Rattle.job_slots.specs.Answers.{early_end_at, or_same, standing_after_step, CanStep, Fits, IsEnding, TakesStep}
@@ -54,6 +56,7 @@ runs_at_first slots task t h = record {
   running = ap (state_after task) h.first.executed;
   at = grind arith;
   holds = none_held slots t.cells h.nothing;
+  settled = h.first.settled;
 }
 
 -- the slot of a job that lives
@@ -111,25 +114,36 @@ after_both number task standing begun after first second = cc
 
 -- its step can begin
 pub is_flying : (number : ℕ) (blocks : JobBlocks) (task : Task) (slot : SlotState) → Shows number blocks task slot →
-    slot.status ≡ status.Live → IsSettled (functions_of task.verified) slot.trace.frames →
-    early_end_at task slot.trace.executed ≡ None → IsFlyingSlot (own_slots number blocks) task slot.trace
-is_flying number blocks task slot shows live settled goes_on =
+    slot.status ≡ status.Live → early_end_at task slot.trace.executed ≡ None →
+    IsFlyingSlot (own_slots number blocks) task slot.trace
+is_flying number blocks task slot shows live goes_on =
     let run = runs _ _ _ _ shows live in
-    record { run = run; goes_on = sym (early_end_when _ _ _ run.running) ∙ goes_on; settled = settled }
+    record { run = run; goes_on = sym (early_end_when _ _ _ run.running) ∙ goes_on }
 
 pub shows_flying : (number : ℕ) (blocks : JobBlocks) (task : Task) (slot : SlotState) → Shows number blocks task slot →
-    slot.status ≡ status.Live → IsSettled (functions_of task.verified) slot.trace.frames →
-    early_end_at task slot.trace.executed ≡ None → Shows number blocks task (flying slot)
-shows_flying number blocks task slot shows live settled goes_on =
-    grind (arith, is_flying number blocks task slot shows live settled goes_on)
+    slot.status ≡ status.Live → early_end_at task slot.trace.executed ≡ None → Shows number blocks task (flying slot)
+shows_flying number blocks task slot shows live goes_on =
+    grind (arith, is_flying number blocks task slot shows live goes_on)
 
--- a live job still shows if the frames inside its slot stand wherever the old ones did
+-- ---- a job that goes on
+
+pub shown_goes_on : (number : ℕ) (blocks : JobBlocks) (task : Task) (slot : SlotState) →
+    Shows number blocks task slot → slot.status ≡ status.Live → GoesOn number blocks task slot
+shown_goes_on number blocks task slot shows live = let run = runs _ _ _ _ shows live in grind arith
+
+-- the track that its slot has inside can be settled
+pub active_inside : StepsCanBegin ℕ → (number : ℕ) (blocks : JobBlocks) (task : Task) (inside slot : SlotState) →
+    inside ≡ slot → GoesOn number blocks task slot → AreActive (functions_of task.verified) inside.trace.frames
+active_inside law number blocks task inside slot same on =
+    rw same (law on.verified.0 task on.verified.1 slot.trace.executed on.state slot.trace on.running on.at).active
+
+-- and then it shows the job
 pub settled_shows : (number : ℕ) (blocks : JobBlocks) (task : Task) (inside slot : SlotState) (frames : List Frame) →
-    inside ≡ slot → Shows number blocks task slot → slot.status ≡ status.Live → ((calls : List Active) →
+    inside ≡ slot → GoesOn number blocks task slot → ((calls : List Active) →
     StandAll (functions_of task.verified) inside.trace.frames calls →
-    StandAll (functions_of task.verified) frames calls) →
+    StandAll (functions_of task.verified) frames calls) → IsSettled (functions_of task.verified) frames →
     Shows number blocks task (record inside { trace = record inside.trace { frames = frames } })
-settled_shows number blocks task inside slot frames same shows live stand = search (rules, runs)
+settled_shows number blocks task inside slot frames same on stand settled = grind arith
 
 -- ======== the slot of a job after a step that was committed
 
@@ -178,8 +192,8 @@ pub record Executed (number : ℕ) (task : Task) (t u : TrackState ℕ) (old new
   pub others : ChangesOnlyOf number old new
   pub same_grant : grant_of new number ≡ grant_of old number
 
--- the job, which is live, runs on, or it has returned
-pub record GoesOn (mid new : SlotState) (on : Bool) : Type 0 where
+-- the job, which is live, goes on, or it has returned
+pub record GoesOnOrReturned (mid new : SlotState) (on : Bool) : Type 0 where
   pub still : on ≡ true → (0 < length mid.trace.frames) × (new ≡ mid)
   pub ended : on ≡ false → (mid.trace.frames ≡ []) × (new ≡ record mid { status = status.Ended; outcome = None })
 
@@ -201,7 +215,7 @@ module _ (reaches : Reaches) (end_is_own : EndIsOwn) (number : ℕ) (task : Task
 
   -- whichever state the job is at then
   steps : (p : Progress) → state_after task (n + 1) ≡ p → IsAfter (own_slots number new) task mid.trace p → (on : Bool)
-      (last : SlotState) → GoesOn mid last on → TakesStep number task n old last new on
+      (last : SlotState) → GoesOnOrReturned mid last on → TakesStep number task n old last new on
   steps (Running s) e after true last goes =
       let is = reaches _ task can.shows.verified.1 (n + 1) s e in
       let count : mid.trace.executed ≡ n + 1 = after.0.executed ∙ is.count in
@@ -215,7 +229,7 @@ module _ (reaches : Reaches) (end_is_own : EndIsOwn) (number : ℕ) (task : Task
   steps (Over ending count most) e after false last goes = grind (arith, nat_tests, next, grant)
   steps Stuck e after on last goes = absurd after
 
-  pub took : (on : Bool) (last : SlotState) → GoesOn mid last on → TakesStep number task n old last new on
+  pub took : (on : Bool) (last : SlotState) → GoesOnOrReturned mid last on → TakesStep number task n old last new on
   took on last goes = steps _ refl executed.after on last goes
 
 -- ---- a commit
@@ -308,11 +322,10 @@ module _ (number : ℕ) (task : Task) (n : ℕ) (on : Bool) where
 
 -- ======== a job that is run until it is over
 
--- after some steps from a slot and its blocks on the job is live
+-- after some steps from a slot and its blocks on the job goes on
 pub record IsOnRun (number : ℕ) (task : Task) (first : SlotState) (before : JobBlocks) (slot : SlotState)
     (blocks : JobBlocks) : Type 0 where
-  pub shows : Shows number blocks task slot
-  pub live : slot.status ≡ status.Live
+  pub on : GoesOn number blocks task slot
   pub others : ChangesOnlyOf number before blocks
   pub tidy : IsTidy blocks.memory
   pub from_first : (new : Standing) → HasRun number task (standing_of slot) new →
@@ -340,19 +353,17 @@ module _ (number : ℕ) (task : Task) (first : SlotState) (before : JobBlocks) (
   stands_after goes_on took = grind (arith, step)
 
   was_live : is_live (standing_of slot) ≡ true
-  was_live = ap (λ (s : Status). is_live (standing_by s step)) on.live
+  was_live = ap (λ (s : Status). is_live (standing_by s step)) on.on.live
 
   pub on_next : ChangesJoin → Reaches → TakesStep number task step old new blocks true → IsTidy blocks.memory →
       HasStepped number task first before slot new blocks
   on_next join reaches took tidy =
-      let goes_on = took.standing ∙ led number task step true old new blocks took in
-      let at = is_live_at new (step + 1) goes_on in
-      let run = runs number blocks task new took.shows at.0 in
-      let is = reaches took.shows.verified.0 task took.shows.verified.1 new.trace.executed run.state run.running in
+      let at = is_live_at new (step + 1) (took.standing ∙ led number task step true old new blocks took) in
+      let after = took.on refl in
+      let is = reaches after.verified.0 task after.verified.1 new.trace.executed after.state after.running in
       record {
         on = record {
-          shows = took.shows;
-          live = at.0;
+          on = after;
           others = (join number).both before old blocks on.others took.others;
           tidy = tidy;
           from_first = λ last run. on.from_first last (suc run.0, (was_live, (rw (← stands_after true took) run.1)));

@@ -13,7 +13,6 @@ use Rattle.job_steps.specs.Flows.{flow_of}
 use Rattle.job_steps.specs.declared.event.Event.TheVariants as event
 use Rattle.job_steps.specs.Buffers.{HaveAtMost}
 use Rattle.job_steps.specs.Events.{early_end, next_standing}
-use Rattle.job_steps.specs.Frames.{IsSettled}
 use Rattle.job_steps.specs.Questions.{Question, need_words}
 use Rattle.job_steps.specs.Runs.{state_after, outcome, executed_count, peak}
 use Rattle.job_steps.specs.Standings.{Standing, Live, InFlight, Ended}
@@ -21,7 +20,6 @@ use Rattle.job_steps.specs.States.{Task, Active, State}
 use Rattle.job_steps.specs.Steps.{Ending, Progress, Running, Over, Stuck, next_item, question_of, words_at}
 use Rattle.job_steps.specs.Steps.{held_at, sources_of}
 use Rattle.job_steps.specs.Tickets.{Asked, AreResults, CanAnswer, question_by}
-use Rattle.job_steps.specs.Tracks.{functions_of}
 use Rattle.job_slots.specs.declared.answer.Begun.{Begun}
 use Rattle.job_slots.specs.declared.answer.Begun.TheVariants as begun
 use Rattle.job_slots.specs.declared.answer.Finished.{Finished}
@@ -29,7 +27,7 @@ use Rattle.job_slots.specs.declared.answer.Finished.TheVariants as finished
 use Rattle.job_slots.specs.declared.answer.Stepped.{Stepped}
 use Rattle.job_slots.specs.declared.answer.Stepped.TheVariants as stepped
 use Rattle.job_slots.specs.declared.status.Status.TheVariants as status
-use Rattle.job_slots.specs.Slots.{SlotState, Shows, IsReturned, standing_of}
+use Rattle.job_slots.specs.Slots.{GoesOn, SlotState, Shows, IsReturned, standing_of}
 
 -- ---- what a step asks
 
@@ -232,12 +230,10 @@ Steps job words task standing stepped.Ended =
 Steps job words task standing stepped.NotReady = is_live standing ≡ false
 Steps job words task standing stepped.SmallDesk = (is_live standing ≡ true) × (words < task.limits.words)
 
--- The job can take its next step: it is live, its track is at the line of its next instruction, and there are numbers
--- for two blocks more.
+-- the job can take its next step: it is live, and there are numbers for two blocks more
 pub record CanStep (job : ℕ) (task : Task) (slot : SlotState) (blocks : JobBlocks) : Type 0 where
   pub shows : Shows job blocks task slot
   pub live : slot.status ≡ status.Live
-  pub settled : IsSettled (functions_of task.verified) slot.trace.frames
   pub numbers : block_count blocks.memory + 2 ≤ length blocks.memory.slots
 
 -- A step leads a job, which was live after n instructions, to this slot, and its blocks to these. The job goes on after
@@ -246,7 +242,8 @@ pub record TakesStep (job : ℕ) (task : Task) (n : ℕ) (old : JobBlocks) (slot
     (goes_on : Bool) : Type 0 where
   pub standing : standing_of slot ≡ standing_after_step job task (Live n)
   pub answer : goes_on ≡ is_live (standing_of slot)
-  pub shows : Shows job new task slot
+  pub on : goes_on ≡ true → GoesOn job new task slot
+  pub over : goes_on ≡ false → Shows job new task slot
   pub others : ChangesOnlyOf job old new
 
 -- the job took no step

@@ -17,7 +17,7 @@ use Rattle.job_steps.specs.Tracks.{TrackState}
 use Rattle.job_slots.specs.declared.in_place.Placement.{Placement}
 use Rattle.job_slots.specs.Answers.{question_at}
 use Rattle.job_slots.specs.Commits.{blocks_beside, taken_ids}
-use Rattle.job_slots.specs.Executions.{HasSettled}
+use Rattle.job_slots.specs.Executions.{HasExchanged}
 
 abbrev pub is_constant : Op → Bool
 is_constant (Const k) = true
@@ -55,7 +55,7 @@ pub record AreComputed (rule : Rule) (job : ℕ) (op : Op) (taken ids : List ℕ
   pub first : List ℤ
   pub second : List ℤ
   pub results : AreResults (question_by op (map (words_at old.memory) taken)) first second
-  pub settled : (cells : List ℕ) → taken_ids op cells ≡ taken → HasSettled Second job op first second
+  pub exchanged : (cells : List ℕ) → taken_ids op cells ≡ taken → HasExchanged Second job op first second
       cells ids old new
   pub counted : words_by rule (held_words job old + length first + length second) (held_words job new)
       ≡ held_words job (blocks_beside rule taken old) + length first + length second

@@ -44,18 +44,18 @@ status_of Collected = status.Collected
 
 -- ---- by its status
 
--- the job runs, and the cells hold its stack
+-- the job runs, the cells hold its stack, and the track is at the line of its next instruction
 pub record IsRunningSlot (slots : List shared.Slot) (task : Task) (t : TrackState ℕ) : Type 0 where
   pub state : State
   pub running : state_after task t.executed ≡ Running state
   pub at : IsAt task t state
   pub holds : HoldStack slots t.cells state.stack
+  pub settled : IsSettled (functions_of task.verified) t.frames
 
--- and nothing ends it before the values of its next instruction are looked at, at whose line the track is
+-- and nothing ends it before the values of its next instruction are looked at
 pub record IsFlyingSlot (slots : List shared.Slot) (task : Task) (t : TrackState ℕ) : Type 0 where
   pub run : IsRunningSlot slots task t
   pub goes_on : early_end task run.state ≡ None
-  pub settled : IsSettled (functions_of task.verified) t.frames
 
 -- the job has returned, and the cells hold its results
 pub record HasReturned (slots : List shared.Slot) (task : Task) (t : TrackState ℕ) : Type 0 where
@@ -127,6 +127,18 @@ IsAfter slots task t (Over ending executed peak) =
     × ((stack : List StackEntry) × (ending ≡ Returned (reverse (values_of stack)))
     × (held_words stack ≡ held_in (state_after task (executed - 1))) × HoldStack slots t.cells stack)
 IsAfter slots task t Stuck = ⊥
+
+-- The job, which is live, goes on after an instruction: it has its grant, and its cells hold its stack. Its track may
+-- be at an ELSE or ENDIF, which is passed over before the next instruction.
+pub record GoesOn (number : ℕ) (blocks : JobBlocks) (task : Task) (slot : SlotState) : Type 0 where
+  pub is_job : IsJob blocks number
+  pub verified : IsVerified task
+  pub grant : grant_of blocks number ≡ Some task.limits.words
+  pub live : slot.status ≡ status.Live
+  pub state : State
+  pub running : state_after task slot.trace.executed ≡ Running state
+  pub at : IsAt task slot.trace state
+  pub holds : HoldStack (own_slots number blocks) slot.trace.cells state.stack
 
 -- ---- new slots
 

@@ -14,7 +14,7 @@ ghost use Rattle.job_steps.specs.Runs.{state_after};
 ghost use Rattle.job_steps.specs.States.{ruled};
 ghost use Rattle.job_steps.specs.Tracks.{IsDeep};
 ghost use Rattle.job_slots.specs.Commits.{CanTake, IsExchanged, blocks_after_taking, held_under, moved_ids, taken_ids};
-ghost use Rattle.job_slots.specs.Executions.{CanSettle, CanShare, HasSettled, IsMade, ids_in};
+ghost use Rattle.job_slots.specs.Executions.{CanGive, CanShare, HasGiven, IsMade, ids_in};
 ghost use Rattle.job_slots.specs.Slots.{IsFlyingSlot, IsAfter};
 ghost use Rattle.job_slots.specs.Answers.{question_at};
 
@@ -121,8 +121,8 @@ pub(crate) fn execute<C: Class, A: Allocator>(
 {
     steps_execute();
     let _used = blocks.used();
-    let results = settle::<C, A>(turn, track, blocks, made);
-    track.advance_settled(job, made.op, made.flow, results.as_slice(), made.words);
+    let results = exchange_operands::<C, A>(turn, track, blocks, made);
+    track.advance(job, made.op, made.flow, results.as_slice(), made.words);
 }
 
 /// The words that count as held while an instruction's results are made: not those of the operands under the second
@@ -150,21 +150,15 @@ pub(crate) fn held_under<A: Allocator>(
 
 /// Takes the operands of an instruction off the blocks, and places its results.
 #[tactic(auto, using(crate::proofs::Executed::same_grants, crate::proofs::Stacks::deep_enough))]
-fn settle<C: Class, A: Allocator>(
+fn exchange_operands<C: Class, A: Allocator>(
     turn: Turn,
     track: &Track<BlockId, A>,
     blocks: &mut JobMemory<A>,
     made: Made<'_>,
 ) -> NewBlocks
-    requires has_grant { HasGrant blocks.old turn.number }
-    requires numbers { block_count blocks.old.memory + 2 ≤ length blocks.old.memory.slots }
-    requires two { length (result_kinds made.op) ≤ 2 }
-    requires room { held_under turn.rule turn.number made.op track.now.cells blocks.old
-        + length made.first.now + length made.second.now ≤ words_of (grant_of blocks.old turn.number) }
-    requires can { CanSettle turn.number made.op track.now.cells blocks.old }
-    ensures settled { (form : Rule) × HasSettled form turn.number made.entry.op made.entry.first.now
-        made.entry.second.now track.now.cells (ids_in result) blocks.old blocks.new }
-    ensures grants { blocks.new.grants ≡ blocks.old.grants }
+    requires few { length (result_kinds made.op) ≤ 2 }
+    requires can { CanGive turn.rule turn.number made track.now.cells blocks.old }
+    ensures { HasGiven turn.number made.entry track.now.cells (ids_in result) blocks.old blocks.new }
 {
     match made.op.result_kinds() {
         [] => {
@@ -172,28 +166,22 @@ fn settle<C: Class, A: Allocator>(
             NewBlocks::Without
         }
         [_] => NewBlocks::One([exchange(turn, track, blocks, made.op, made.first)]),
-        _ => settle_two(turn, track, blocks, made),
+        _ => exchange_for_two(turn, track, blocks, made),
     }
 }
 
 /// The same for an instruction of two results.
 #[tactic(auto, using(crate::proofs::Stacks::deep_enough))]
 #[inline(never)]
-fn settle_two<A: Allocator>(
+fn exchange_for_two<A: Allocator>(
     turn: Turn,
     track: &Track<BlockId, A>,
     blocks: &mut JobMemory<A>,
     made: Made<'_>,
 ) -> NewBlocks
-    requires has_grant { HasGrant blocks.old turn.number }
-    requires numbers { block_count blocks.old.memory + 2 ≤ length blocks.old.memory.slots }
     requires two { length (result_kinds made.op) ≡ 2 }
-    requires room { held_under turn.rule turn.number made.op track.now.cells blocks.old
-        + length made.first.now + length made.second.now ≤ words_of (grant_of blocks.old turn.number) }
-    requires can { CanSettle turn.number made.op track.now.cells blocks.old }
-    ensures settled { (form : Rule) × HasSettled form turn.number made.entry.op made.entry.first.now
-        made.entry.second.now track.now.cells (ids_in result) blocks.old blocks.new }
-    ensures grants { blocks.new.grants ≡ blocks.old.grants }
+    requires can { CanGive turn.rule turn.number made track.now.cells blocks.old }
+    ensures { HasGiven turn.number made.entry track.now.cells (ids_in result) blocks.old blocks.new }
 {
     let below = exchange(turn, track, blocks, made.op, made.first);
     let top = place(turn.number, blocks, made.second);

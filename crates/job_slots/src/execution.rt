@@ -1,7 +1,7 @@
 //! Laws of the next instruction of a job: what counts as held at it, and that it can be executed if its step is in
 //! flight.
 
-ghost use Rattle.job_slots.specs.Executions.{HeldIsCounted, StepsExecute};
+ghost use Rattle.job_slots.specs.Executions.{BlockLaws, HeldIsCounted, StepsExecute};
 
 use block_memory::BlockId;
 use job_memory::laws::{
@@ -23,20 +23,20 @@ pub(crate) fn steps_execute()
     each_track_follows::<BlockId>();
     steps_can_advance::<BlockId>();
     results_have_needed_lengths();
-    shares_are_counted();
-    releases_are_counted();
-    releases_keep_blocks();
-    release_stays_tidy();
-    blocks_change_only_their_job();
-    shares_change_only_their_job();
-    releases_change_only_their_job();
-    changes_join();
+    block_laws();
 }
 
 /// What counts as held at the next instruction of a job is what counts when it runs alone, and the blocks of its
 /// operands are the job's.
 pub(crate) fn held_is_counted()
     ensures { HeldIsCounted }
+{
+    block_laws();
+}
+
+/// What shares, releases and new blocks do to the blocks of a job.
+fn block_laws()
+    ensures { BlockLaws }
 {
     shares_are_counted();
     releases_are_counted();

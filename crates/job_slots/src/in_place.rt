@@ -221,7 +221,7 @@ pub(crate) fn execute_in_place<A: Allocator>(
     match compute(turn, placement, operands, beside, blocks) {
         Ok(results) => {
             let words = words_by(turn.rule, held + first + second, blocks.held(turn.number));
-            track.advance_settled(job, op, Flow::Next, results.as_slice(), words);
+            track.advance(job, op, Flow::Next, results.as_slice(), words);
             Ok(())
         }
         Err(fault) => Err(fault),

@@ -10,11 +10,10 @@ ghost use Rattle.job_memory.specs.JobBlocks.{own_slots};
 ghost use Rattle.vcode_reader.specs.Pools.{list_in};
 ghost use Rattle.job_steps.specs.declared.operands.TheConstants.{MOST_OPERANDS};
 ghost use Rattle.job_steps.specs.EventLaws.{IsVerified};
-ghost use Rattle.job_steps.specs.Frames.{IsSettled, instruction_in};
+ghost use Rattle.job_steps.specs.Frames.{instruction_in};
 ghost use Rattle.job_steps.specs.Motions.{operand_count, top_entries};
 ghost use Rattle.job_steps.specs.States.{StackEntry, ruled, words_of};
 ghost use Rattle.job_steps.specs.Steps.{sources_of};
-ghost use Rattle.job_steps.specs.Tracks.{functions_of};
 ghost use Rattle.job_slots.specs.Slots.{IsRunningSlot};
 ghost use Rattle.job_slots.specs.Answers.{IsNext, line_at, question_at};
 ghost use Rattle.job_slots.specs.InPlace.{is_constant};
@@ -91,23 +90,6 @@ pub(crate) fn next_line<'a, A: Allocator>(
 {
     steps_can_begin::<BlockId>();
     track.line(job.verified().program())
-}
-
-/// The same of a track that is at that line, which takes less time.
-#[inline(always)]
-pub(crate) fn settled_line<'a, A: Allocator>(
-    turn: Turn,
-    job: &'a Job<A>,
-    track: &Track<BlockId, A>,
-    blocks: &JobMemory<A>,
-) -> CodeLine<'a>
-    requires running { IsRunningSlot (own_slots turn.number blocks.now) (ruled turn.rule job.now) track.now }
-    requires verified { IsVerified (ruled turn.rule job.now) }
-    requires settled { IsSettled (functions_of job.now.verified) track.now.frames }
-    ensures { IsLineOf (ruled turn.rule job.now) track.now result }
-{
-    steps_can_begin::<BlockId>();
-    track.settled_line(job.verified().program())
 }
 
 /// The next instruction of a job that runs, which is this one, and no `CONST`.

@@ -27,7 +27,7 @@ use Rattle.job_steps.specs.Steps.{next_item}
 use Rattle.job_steps.specs.Tracks.{CanCall, CanFollow, Follow, IsCallOf, first_call, functions_of}
 use Rattle.job_steps.proofs.Passing.{remaining_of_all}
 use Rattle.job_steps.proofs.StackLemmas.{length-stack_after, length-results}
-use Rattle.job_steps.proofs.Standing.{stands_at, line_at, line_found, next_item_is}
+use Rattle.job_steps.proofs.Standing.{first_stops, stands_at, line_at, line_found, next_item_is}
 use Rattle.job_steps.proofs.Typed.{callee}
 
 -- ---- the innermost frame
@@ -214,8 +214,10 @@ pub top_active : (fs : List Function) (frames : List Frame) (frame : Frame) → 
     AreActive fs frames → (call : Active) × Stands fs frame call
 top_active fs frames frame top active = (active.0, (top_frame fs frames frame active.0 active.1 top active.2).inner)
 
--- what `line` and `settled_line` need, and what `follow` does
+-- what `line`, `main_frame` and `follow` need
 pub ruleset of_next_lines = (top_active, top_frame, stop_top, next_item_is)
+
+pub ruleset of_main = (same_functions, main_is, first_stops)
 
 pub ruleset of_follow = (same_functions, inner_stands, inner_settled, stop_top, call_is)
 

@@ -2,17 +2,18 @@
 use Rattle.vcode_reader.specs.Decode.{tail_of, then_body}
 use Rattle.std.proofs.lemmas.Grind.{common_steps}
 use Rattle.std.proofs.Common.{rules, ◌≡◌, ◌∙◌, ◌+◌, ◌<◌, ℕ, Bool, List, [], ◌∷◌, length, drop, Option, get_or, Some}
-use Rattle.std.proofs.Common.{None, ap, sym, arith}
+use Rattle.std.proofs.Common.{None, ap, sym, arith, ◌++◌}
 use Rattle.std.specs.Prelude.{slice_get, if◌then◌else◌, MatchOption}
 use Rattle.std.proofs.lemmas.List.{drop_all, drop_more}
 use Rattle.std.proofs.lemmas.Option.{slice_get_cases, slice_get_within, get_or_from_slice_get}
 use Rattle.vcode_base.specs.declared.instr.Instr.TheVariants.{Return}
 use Rattle.vcode_reader.specs.declared.line.CodeItem.TheVariants as code_item
 use Rattle.vcode_reader.specs.Targets.{target_at, EachTargetIsFirst}
-use Rattle.vcode_reader.specs.Trees.{Item, Body, End, Do, Choice, CodeLine, Function, lines_of}
+use Rattle.vcode_reader.specs.Trees.{Item, Body, End, Do, Choice, CodeLine, Function, body_lines, instruction_line}
+use Rattle.vcode_reader.specs.Trees.{lines_of}
 use Rattle.job_steps.specs.declared.frame.Frame.{Frame}
 use Rattle.job_steps.specs.Frames.{IsStop, StopAt, Stands, remaining, lines_from, with_return, next_line}
-use Rattle.job_steps.specs.Frames.{instruction_of}
+use Rattle.job_steps.specs.Frames.{instruction_of, lines_at}
 use Rattle.job_steps.specs.States.{Active}
 use Rattle.job_steps.specs.Steps.{next_item}
 use Rattle.job_steps.proofs.Passing.{if_chooses, else_passes, remaining_do, remaining_nothing, then_assoc}
@@ -77,6 +78,20 @@ pub line_found : (functions : List Function) (frame : Frame) (call : Active) (s 
     StopAt (lines_from functions frame) → next_line call ≡ (stands_at functions frame call s).line
 line_found functions frame call s stop = grind (arith, line_at)
 
+-- the first line of a function is no ELSE or ENDIF
+body_stops : (b : Body) (ret : ℕ) → StopAt (body_lines b ++ instruction_line Return ret ∷ [])
+body_stops End ret = tt
+body_stops (Do i l b) ret = tt
+body_stops (Choice l first second e b) ret = tt
+
+first_at : (f : Option Function) → StopAt (lines_at f)
+first_at None = tt
+first_at (Some f) = body_stops f.body f.ret
+
+pub first_stops : (functions : List Function) (place : ℕ) →
+    StopAt (lines_from functions (record { function = place; place = 0 }))
+first_stops functions place = first_at (slice_get functions place)
+
 pub next_item_is : (call : Active) → next_item call ≡ instruction_of (next_line call)
 next_item_is call = grind arith
 
@@ -86,14 +101,6 @@ module _ (functions : List Function) (frame : Frame) (g : Function) (place : ℕ
     (found : slice_get functions frame.function ≡ Some g) where
   abbrev frame_at : Frame
   frame_at = record { function = frame.function; place = place }
-
-  -- the frame at the place that the code goes on at
-  pub stands_settled : remaining (drop place (lines_of g)) ≡ remaining (drop frame.place (lines_of g)) →
-      (call : Active) → Stands functions frame call → Stands functions frame_at call
-  stands_settled same call s = grind arith
-
-  pub stop_from : StopAt (drop place (lines_of g)) → StopAt (lines_from functions frame_at)
-  stop_from stop = grind arith
 
   pub stands_next : place ≡ frame.place + 1 → StopAt (lines_from functions frame) →
       (item : Item) (line ret : ℕ) (rest : Body) → Stands functions frame

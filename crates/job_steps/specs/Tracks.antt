@@ -12,7 +12,7 @@ use Rattle.verifier.specs.Typed.{TypedProgram}
 use Rattle.job_steps.specs.declared.flow.Flow.{Flow}
 use Rattle.job_steps.specs.declared.frame.Frame.{Frame}
 use Rattle.job_steps.specs.Flows.{choice, flow_of}
-use Rattle.job_steps.specs.Frames.{Stands, StandAll, next_line}
+use Rattle.job_steps.specs.Frames.{IsSettled, Stands, StandAll, next_line}
 use Rattle.job_steps.specs.Motions.{operand_count, stack_after}
 use Rattle.job_steps.specs.States.{Task, Active, State, Callee, callee_named, first_state}
 use Rattle.job_steps.specs.Steps.{Progress, Running, Over, Stuck, next_item, calls_after, question_of, flag_of}
@@ -36,13 +36,15 @@ pub record HasLimits (limits : Limits) (cells frames : ℕ) : Type 0 where
 abbrev pub functions_of : TypedProgram → List Function
 functions_of verified = verified.program.functions
 
--- nothing is done, within these limits, and the frames are at the first calls of the program
+-- Nothing is done, within these limits, and the frames are at the first calls of the program, at the line that is
+-- executed first.
 pub record IsFirst {C : Type 0} (verified : TypedProgram) (within : Limits) (t : TrackState C) : Type 0 where
   pub limits : t.limits ≡ within
   pub cells : t.cells ≡ []
   pub executed : t.executed ≡ 0
   pub peak : t.peak ≡ 0
   pub frames : StandAll (functions_of verified) t.frames (first_state verified).calls
+  pub settled : IsSettled (functions_of verified) t.frames
 
 -- the entries that an instruction takes are there
 abbrev pub IsDeep : Op → ℕ → Type 0

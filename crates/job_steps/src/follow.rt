@@ -20,14 +20,16 @@ pub(crate) fn first_frames<A: Allocator>(alloc: A, job: &Job<A>) -> Result<Calls
     ensures room { IfOk result (λ frames. frames.room ≡ job.now.limits.calls) }
     ensures stand { IfOk result (λ frames.
         StandAll (functions_of job.now.verified) frames.entries (first_state job.now.verified).calls) }
+    ensures settled { IfOk result (λ frames. IsSettled (functions_of job.now.verified) frames.entries) }
 {
     Calls::new(alloc, job.limits().calls, main_frame(job))
 }
 
 /// The frame of the first line of `MAIN`.
-#[tactic(auto, using(crate::proofs::Following::same_functions, crate::proofs::Following::main_is))]
+#[tactic(auto, using(crate::proofs::Following::of_main))]
 fn main_frame<A: Allocator>(job: &Job<A>) -> Frame
-    ensures { StandAll (functions_of job.now.verified) (result ∷ []) (first_state job.now.verified).calls }
+    ensures stands { StandAll (functions_of job.now.verified) (result ∷ []) (first_state job.now.verified).calls }
+    ensures settled { IsSettled (functions_of job.now.verified) (result ∷ []) }
 {
     let program = job.verified().program();
     Frame::first(program.position(b"MAIN").unwrap())

@@ -30,40 +30,15 @@ impl Frame {
         Frame { function, place: 0 }
     }
 
-    /// The line that is executed next.
-    #[inline(always)]
-    pub(crate) fn line<'a, A: Allocator>(self, program: &'a Program<A>) -> CodeLine<'a>
-        requires { (call : Active) × Stands program.now.functions self call }
-        ensures { (call : Active) → Stands program.now.functions self call → result ≡ next_line call }
-    {
-        self.settled(program).settled_line(program)
-    }
-
     /// Its line, which is executed next.
     #[tactic(auto, using(crate::proofs::Standing::line_at))]
     #[inline(always)]
-    pub(crate) fn settled_line<'a, A: Allocator>(self, program: &'a Program<A>) -> CodeLine<'a>
+    pub(crate) fn line<'a, A: Allocator>(self, program: &'a Program<A>) -> CodeLine<'a>
         requires stands { (call : Active) × Stands program.now.functions self call }
         requires settled { StopAt (lines_from program.now.functions self) }
         ensures { (call : Active) → Stands program.now.functions self call → result ≡ next_line call }
     {
         self.function(program).item(self.place).unwrap()
-    }
-
-    /// The frame at the line that is executed next.
-    #[tactic(auto, using(crate::proofs::Standing::stands_settled, crate::proofs::Standing::stop_from))]
-    #[inline(always)]
-    fn settled<A: Allocator>(self, program: &Program<A>) -> Frame
-        requires { (call : Active) × Stands program.now.functions self call }
-        ensures stands { (call : Active) → Stands program.now.functions self call
-            → Stands program.now.functions result call }
-        ensures settled { StopAt (lines_from program.now.functions result) }
-    {
-        let function = self.function(program);
-        Frame {
-            function: self.function,
-            place: settled(function, self.place),
-        }
     }
 
     /// The frame at which an `ELSE` or an `ENDIF` goes on, which is passed over.
@@ -157,19 +132,6 @@ fn part<A: Allocator>(function: &Function<A>, place: usize, flag: bool) -> usize
     } else {
         function.target(place).unwrap_or(next)
     }
-}
-
-/// The first place from this one on that the code stops at: at an `ELSE` or `ENDIF` it goes on at once.
-#[inline(always)]
-fn settled<A: Allocator>(function: &Function<A>, place: usize) -> usize
-    ensures same { remaining (drop result (lines_of function.now)) ≡ remaining (drop place (lines_of function.now)) }
-    ensures stops { StopAt (drop result (lines_of function.now)) }
-{
-    let mut here = place;
-    while let Some(next) = passed(function, here) {
-        here = next;
-    }
-    here
 }
 
 /// The place at which an `ELSE` or an `ENDIF` at this place goes on.

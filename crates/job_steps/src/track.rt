@@ -123,11 +123,12 @@ impl<C: Copy, A: Allocator> Track<C, A> {
         self.cells.as_slice()
     }
 
-    /// The line of the next instruction in the job's program. Some call has to be active.
+    /// The line of the next instruction in the job's program. Some call has to be active, and the track settled.
     #[tactic(auto, using(crate::proofs::Following::of_next_lines))]
     #[inline(always)]
     pub fn line<'a>(&self, program: &'a Program<A>) -> CodeLine<'a>
-        requires { AreActive program.now.functions self.now.frames }
+        requires active { AreActive program.now.functions self.now.frames }
+        requires settled { IsSettled program.now.functions self.now.frames }
         ensures line { (call : Active) (outer : List Active)
             → StandAll program.now.functions self.now.frames (call ∷ outer) → result ≡ next_line call }
         ensures item { (call : Active) (outer : List Active)
@@ -137,20 +138,8 @@ impl<C: Copy, A: Allocator> Track<C, A> {
         self.frames.innermost().line(program)
     }
 
-    /// The same of a track that is settled, which takes less time.
-    #[tactic(auto, using(crate::proofs::Following::of_next_lines))]
-    #[inline(always)]
-    pub fn settled_line<'a>(&self, program: &'a Program<A>) -> CodeLine<'a>
-        requires active { AreActive program.now.functions self.now.frames }
-        requires settled { IsSettled program.now.functions self.now.frames }
-        ensures { (call : Active) (outer : List Active)
-            → StandAll program.now.functions self.now.frames (call ∷ outer)
-            → next_item call ≡ instruction_of result }
-    {
-        self.frames.innermost().settled_line(program)
-    }
-
-    /// Passes over each `ELSE` and `ENDIF` before the line of the next instruction. Some call has to be active.
+    /// Passes over each `ELSE` and `ENDIF` before the line of the next instruction, so that the track is settled. Some
+    /// call has to be active.
     #[inline(always)]
     pub fn settle(&mut self, program: &Program<A>)
         requires { AreActive program.now.functions self.old.frames }
@@ -175,25 +164,11 @@ impl<C: Copy, A: Allocator> Track<C, A> {
     /// Executes the next instruction, which is this one without its list or name. `flow` says how the calls go on,
     /// `results` name its results from the bottom up, and `words` is the number of words that were held and needed.
     ///
-    /// The entries that it takes have to be there, no limit may be passed, and a function that it calls has
-    /// to be there. At `RET` of the only active call none is active afterwards, and the entries stay.
-    #[tactic(auto, using(crate::proofs::Following::same_length))]
-    pub fn advance(&mut self, job: &Job<A>, op: Op, flow: Flow, results: &[C], words: usize)
-        requires budget { self.old.executed < self.old.limits.budget }
-        requires deep { IsDeep op (length self.old.cells) }
-        requires given { length results.now ≡ length (result_kinds op) }
-        requires cells { depth_after op (length self.old.cells) ≤ self.old.limits.cells }
-        requires calls { CanFollow job.now.verified op self.old.frames self.old.limits.calls }
-        requires flow { IsFlowOf op flow }
-        ensures { Advances job.now.verified op flow results.now words self.old self.new }
-    {
-        self.settle(job.verified().program());
-        self.advance_settled(job, op, flow, results, words);
-    }
-
-    /// The same of a track that is settled, which takes less time.
+    /// The track has to be settled, and need not be so afterwards. The entries that the instruction takes have to be
+    /// there, no limit may be passed, and a function that it calls has to be there. At `RET` of the only active call
+    /// none is active afterwards, and the entries stay.
     #[inline(always)]
-    pub fn advance_settled(&mut self, job: &Job<A>, op: Op, flow: Flow, results: &[C], words: usize)
+    pub fn advance(&mut self, job: &Job<A>, op: Op, flow: Flow, results: &[C], words: usize)
         requires budget { self.old.executed < self.old.limits.budget }
         requires deep { IsDeep op (length self.old.cells) }
         requires given { length results.now ≡ length (result_kinds op) }
@@ -216,8 +191,8 @@ impl<C: Copy, A: Allocator> Track<C, A> {
         self.cells.clear();
     }
 
-    /// The places at which the active calls go on, that of the innermost last. After
-    /// [`settle`](Track::settle) that is the line of the next instruction.
+    /// The places at which the active calls go on, that of the innermost last. In a track that is settled that is the
+    /// line of the next instruction.
     pub fn frames(&self) -> Frames<'_>
         ensures { result ≡ reverse self.now.frames }
     {

@@ -23,7 +23,7 @@ can g c =
 
 pub held_under-requires : goal.held_under-requires
 held_under-requires g c =
-    let known = (can g (goal.at.held_under-requires g c).After-flow-flow).can_settle in
+    let known = (can g (goal.at.held_under-requires g c).After-flow-flow).can_exchange in
     record { has_grant = c.requires.has_grant; deep = deep_enough c.op-op.result _ known.deep; own = known.own }
 
 pub overflow_add-words : goal.overflow_add-words

@@ -7,13 +7,13 @@ use Rattle.job_steps.specs.declared.flow.Flow.TheVariants.{Next}
 use Rattle.job_steps.specs.States.{ruled}
 use Rattle.job_steps.specs.Tickets.{AreResults, question_by}
 use Rattle.job_slots.specs.Commits.{held_under, taken_ids}
-use Rattle.job_slots.specs.Executions.{CanExecute, HasSettled, IsExecuted, ids_in}
+use Rattle.job_slots.specs.Executions.{CanExecute, HasExchanged, IsExecuted, ids_in}
 use Rattle.job_slots.specs.InPlace.{operands_in}
 use Rattle.job_slots.proofs.Executed.{executed_past}
 use Rattle.job_slots.proofs.InPlace.{computed_long, goes_next}
 use Rattle.job_slots.proofs.in_place.execute_in_place.Given.{Over}
 use Rattle.job_slots.proofs.in_place.execute_in_place.Goals as goal
-use Rattle.job_slots.proofs.in_place.execute_in_place.Goals.{After-top-operands, After-advance_settled, In-Ok}
+use Rattle.job_slots.proofs.in_place.execute_in_place.Goals.{After-top-operands, After-advance, In-Ok}
 
 operands_are : (g : Over) (c : goal.After-top-operands g) →
     c.top-operands.result.now ≡ taken_ids c.args.due.placement.op c.args.track.now.cells
@@ -38,25 +38,25 @@ can g c =
       results = results g c;
     })
 
-settled : (g : Over) (c : In-Ok g) → HasSettled Second c.args.due.turn.number c.args.due.placement.op
+exchanged : (g : Over) (c : In-Ok g) → HasExchanged Second c.args.due.turn.number c.args.due.placement.op
     c.in-Ok.ensures.computed.first c.in-Ok.ensures.computed.second c.args.track.now.cells (ids_in c.in-Ok.results)
     c.args.blocks.now c.compute.new.blocks
-settled g c =
-    c.in-Ok.ensures.computed.settled c.args.track.now.cells
+exchanged g c =
+    c.in-Ok.ensures.computed.exchanged c.args.track.now.cells
     (sym (operands_are g (goal.at.In-Ok g c).After-top-operands))
 
-pub advance_settled-requires : goal.advance_settled-requires
-advance_settled-requires g c =
-    let at = (goal.at.advance_settled-requires g c).In-Ok in
+pub advance-requires : goal.advance-requires
+advance-requires g c =
+    let at = (goal.at.advance-requires g c).In-Ok in
     let past = (can g at).goes_past in
     let flows = (can g at).flows in
-    let given = (settled g at).given in
+    let given = (exchanged g at).given in
     grind arith
 
-executed : (g : Over) (c : goal.After-advance_settled g) → IsExecuted c.args.due.turn.number c.args.blocks.now
-    c.compute.new.blocks (ruled c.args.due.turn.rule c.args.job.now) c.args.track.now c.advance_settled.new.self
+executed : (g : Over) (c : goal.After-advance g) → IsExecuted c.args.due.turn.number c.args.blocks.now
+    c.compute.new.blocks (ruled c.args.due.turn.rule c.args.job.now) c.args.track.now c.advance.new.self
 executed g c =
-    let at = (goal.at.After-advance_settled g c).In-Ok in
+    let at = (goal.at.After-advance g c).In-Ok in
     let p = c.args.due.placement in
     let here = c.in-Ok.ensures.computed in
     let old : ℕ = held_words c.args.due.turn.number c.args.blocks.now in
@@ -69,10 +69,10 @@ executed g c =
     let taken = operands_are g (goal.at.In-Ok g at).After-top-operands in
     let words : c.words_by-words.result ≡ all =
     rw (c.words_by-words.ensures, before, c.held.ensures.value, ← taken) here.counted in
-    executed_past (can g at) (settled g at) refl (rw (c.as_slice.ensures, words) at c.advance_settled.ensures.advances)
+    executed_past (can g at) (exchanged g at) refl (rw (c.as_slice.ensures, words) at c.advance.ensures.advances)
 
 pub returns-in-Ok-clause-after : goal.returns-in-Ok-clause-after
-returns-in-Ok-clause-after g c = (executed g (goal.at.returns-in-Ok-clause-after g c).After-advance_settled).after
+returns-in-Ok-clause-after g c = (executed g (goal.at.returns-in-Ok-clause-after g c).After-advance).after
 
 pub returns-in-Ok-clause-others : goal.returns-in-Ok-clause-others
-returns-in-Ok-clause-others g c = (executed g (goal.at.returns-in-Ok-clause-others g c).After-advance_settled).others
+returns-in-Ok-clause-others g c = (executed g (goal.at.returns-in-Ok-clause-others g c).After-advance).others

@@ -6,7 +6,7 @@ use Rattle.job_slots.proofs.slot.Slot.carry_out.Goals as goal
 pub execute-requires-clause-flying : goal.execute-requires-clause-flying
 execute-requires-clause-flying g c =
     let can = c.requires.can in
-    rw (← c.self.view_is) at (is_flying _ _ _ _ can.shows can.live can.settled c.requires.goes_on)
+    rw (← c.self.view_is) at (is_flying _ _ _ _ can.shows can.live c.requires.goes_on)
 
 pub returns : goal.returns
 returns g c =

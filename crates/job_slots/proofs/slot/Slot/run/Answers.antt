@@ -1,5 +1,5 @@
 -- Each turn of the loop is a step of the job, which is over when the loop ends.
-use Rattle.std.proofs.Common.{◌∙◌, sym}
+use Rattle.std.proofs.Common.{◌∙◌, refl, sym}
 use Rattle.job_steps.specs.States.{ruled}
 use Rattle.job_slots.proofs.Standings.{HasStepped, has_run, on_next}
 use Rattle.job_slots.proofs.slot.Slot.run.Given.{Over}
@@ -8,10 +8,10 @@ use Rattle.job_slots.proofs.slot.Slot.run.Goals.{After-used-used-in-loop-turn}
 
 stepped : (g : Over) (c : After-used-used-in-loop-turn g) →
     HasStepped c.args.turn.number (ruled c.args.turn.rule c.args.job.now) c.args.self.now c.args.blocks.now
-    c.loop-turn.self c.step_live.new.self c.step_live.new.blocks
+    c.loop-turn.self c.settle_and_step.new.self c.settle_and_step.new.blocks
 stepped g c =
     on_next _ _ _ _ _ _ _ _ c.loop-turn.invariant.0 c.changes_join.ensures c.reached.ensures
-    (rw (← c.loop-turn-test.true) c.step_live.ensures.steps) c.used-used-in-loop-turn.ensures.tidy
+    (rw (← c.loop-turn-test.true) c.settle_and_step.ensures.steps) c.used-used-in-loop-turn.ensures.tidy
 
 pub loop-turn-smaller : goal.loop-turn-smaller
 loop-turn-smaller g c = (stepped g (goal.at.loop-turn-smaller g c).After-used-used-in-loop-turn).less
@@ -19,17 +19,16 @@ loop-turn-smaller g c = (stepped g (goal.at.loop-turn-smaller g c).After-used-us
 pub loop-turn-preserved : goal.loop-turn-preserved
 loop-turn-preserved g c = (
   (stepped g (goal.at.loop-turn-preserved g c).After-used-used-in-loop-turn).on,
-  c.step_live.ensures.desk ∙ c.loop-turn.invariant.1,
+  c.settle_and_step.ensures.desk ∙ c.loop-turn.invariant.1,
 )
 
 pub returns : goal.returns
 returns g c =
-    let steps = c.step_live.ensures.steps in
-    let over = rw c.loop-turn-test.false at steps in
+    let over = rw c.loop-turn-test.false at c.settle_and_step.ensures.steps in
     record {
       ran = has_run _ _ _ _ _ _ _ _ c.loop-turn.invariant.0 over;
       over = sym over.answer;
-      shows = steps.shows;
-      others = (c.changes_join.ensures _).both _ _ _ c.loop-turn.invariant.0.others steps.others;
-      desk = c.step_live.ensures.desk ∙ c.loop-turn.invariant.1;
+      shows = over.over refl;
+      others = (c.changes_join.ensures _).both _ _ _ c.loop-turn.invariant.0.others over.others;
+      desk = c.settle_and_step.ensures.desk ∙ c.loop-turn.invariant.1;
     }

@@ -15,7 +15,7 @@ use Rattle.job_slots.proofs.slot.Slot.step_in_place.Goals.{In-Err}
 pub execute_in_place-requires-clause-flying : goal.execute_in_place-requires-clause-flying
 execute_in_place-requires-clause-flying g c =
     let can = c.requires.can in
-    rw (← c.self.view_is) at (is_flying _ _ _ _ can.shows can.live can.settled c.requires.goes_on)
+    rw (← c.self.view_is) at (is_flying _ _ _ _ can.shows can.live c.requires.goes_on)
 
 -- ---- the instruction is executed
 

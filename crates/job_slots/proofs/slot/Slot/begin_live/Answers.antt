@@ -1,4 +1,4 @@
--- A job whose frames are settled begins its next step, or it ends before that step.
+-- A live job begins its next step, or it ends before that step.
 use Rattle.std.proofs.Common.{◌≡◌, Some, sym, subst}
 use Rattle.job_steps.specs.States.{ruled}
 use Rattle.job_slots.specs.Answers.{IsAskedOf, early_end_at}
@@ -6,9 +6,9 @@ use Rattle.job_slots.specs.Slots.{IsActive}
 use Rattle.job_slots.proofs.InPlace.{may_end}
 use Rattle.job_slots.proofs.NextSteps.{is_ending}
 use Rattle.job_slots.proofs.Standings.{runs, shows_flying}
-use Rattle.job_slots.proofs.slot.Slot.begin_settled.Given.{Over}
-use Rattle.job_slots.proofs.slot.Slot.begin_settled.Goals as goal
-use Rattle.job_slots.proofs.slot.Slot.begin_settled.Goals.{In-Ok, In-Err}
+use Rattle.job_slots.proofs.slot.Slot.begin_live.Given.{Over}
+use Rattle.job_slots.proofs.slot.Slot.begin_live.Goals as goal
+use Rattle.job_slots.proofs.slot.Slot.begin_live.Goals.{In-Ok, In-Err}
 
 -- ---- the job ends
 
@@ -32,5 +32,4 @@ asked g c = rw (← c.self.view_is) c.in-Ok.ensures
 pub returns-in-Ok-clause-shows : goal.returns-in-Ok-clause-shows
 returns-in-Ok-clause-shows g c =
     let at = (goal.at.returns-in-Ok-clause-shows g c).In-Ok in
-    rw (← c.self.view_is) at (shows_flying _ _ _ _ c.requires.shows c.requires.live c.requires.settled
-    (asked g at).goes_on)
+    rw (← c.self.view_is) at (shows_flying _ _ _ _ c.requires.shows c.requires.live (asked g at).goes_on)
