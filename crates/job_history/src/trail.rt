@@ -1,7 +1,7 @@
 //! Where each vector of a run comes from, and where each of its calls was made.
 
 use crate::next::Next;
-use job_profile::Run;
+use job_profile::{Effect, Run};
 use std::alloc::{AllocError, Allocator};
 use vcode_base::{Kind, Op};
 
@@ -81,10 +81,10 @@ impl<A: Allocator> Trail<A> {
         &self.callers
     }
 
-    /// Whether an instruction ends the call of `MAIN`, if it is executed next.
+    /// Whether an instruction that does this ends the call of `MAIN`, if it is executed next.
     #[inline(always)]
-    pub fn ends_with(&self, next: Next) -> bool {
-        matches!(next.op, Op::Return) && self.callers.is_empty()
+    pub fn ends_with(&self, effect: Effect) -> bool {
+        matches!(effect, Effect::Returns) && self.callers.is_empty()
     }
 
     /// The trail after an instruction that a run has executed.
@@ -95,12 +95,14 @@ impl<A: Allocator> Trail<A> {
     #[inline(always)]
     pub fn follow(&mut self, next: Next, run: &Run<A>) -> Result<(), AllocError> {
         match next.op {
-            Op::Call => self.call(next.line, run.depth()),
+            Op::Call => self.call(next.line, run),
             Op::Return => {
-                self.callers.pop();
+                self.leave();
                 Ok(())
             }
-            Op::Const(_) | Op::Elementwise(_) | Op::Segmented(_) => self.make(next, run),
+            Op::Const(_) | Op::Elementwise(_) | Op::Segmented(_) => self.make(
+                next.op, next.line, run,
+            ),
             Op::Move(..) | Op::If => Ok(()),
         }
     }
@@ -117,28 +119,48 @@ impl<A: Allocator> Trail<A> {
         }
     }
 
-    /// The trail after a CALL of a line, which leaves this many entries.
+    /// The trail after a CALL of a line that a run has executed.
+    ///
+    /// # Errors
+    ///
+    /// As of [`Trail::follow`].
     #[inline(always)]
-    fn call(&mut self, line: u64, depth: usize) -> Result<(), AllocError> {
+    pub fn call(&mut self, line: u64, run: &Run<A>) -> Result<(), AllocError> {
+        let depth = run.depth();
         self.callers.push(Caller { line, depth })?;
         Ok(())
     }
 
-    /// The trail after an instruction with results, which are at the top of the stack.
-    fn make(&mut self, next: Next, run: &Run<A>) -> Result<(), AllocError> {
-        let kinds = next.op.result_kinds();
+    /// The trail after a RET.
+    #[inline(always)]
+    pub fn leave(&mut self) {
+        self.callers.pop();
+    }
+
+    /// The trail after an instruction of a line that a run has executed, whose results are at the top of the stack.
+    ///
+    /// # Errors
+    ///
+    /// As of [`Trail::follow`].
+    pub fn make(&mut self, op: Op, line: u64, run: &Run<A>) -> Result<(), AllocError> {
+        let kinds = op.result_kinds();
         for (place, kind) in kinds.iter().enumerate() {
             let above = kinds.len().saturating_sub(place).saturating_sub(1);
             if let Some(block) = run.block(above) {
-                self.put(block, *kind, next.line)?;
+                self.put(block, *kind, line)?;
             }
         }
         Ok(())
     }
 
-    /// Notes that a line has made a vector of a kind in the block of this number.
+    /// Notes that a line has made a vector of a kind in the block of this number. Vectors of one instruction come from the
+    /// bottom of the stack up.
+    ///
+    /// # Errors
+    ///
+    /// As of [`Trail::follow`].
     #[inline(always)]
-    fn put(&mut self, block: usize, kind: Kind, line: u64) -> Result<(), AllocError> {
+    pub fn put(&mut self, block: usize, kind: Kind, line: u64) -> Result<(), AllocError> {
         for _ in self.origins.len()..=block {
             self.origins.push(Origin::NONE)?;
         }

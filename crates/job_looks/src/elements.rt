@@ -2,13 +2,6 @@
 
 use job_profile::Run;
 use std::alloc::Global;
-use vcode_base::Op;
-
-/// Whether an instruction has operands or results.
-#[inline(always)]
-pub fn has_vectors(op: Op) -> bool {
-    !matches!(op, Op::Call | Op::Return | Op::Move(..))
-}
 
 /// How many words the entries at the top of the stack of a run have, `count` of them or as many as there are.
 pub fn elements_of(run: &Run<Global>, count: usize) -> u64 {

@@ -32,7 +32,7 @@ mod watch;
 mod wide;
 
 pub use batch::Batch;
-pub use elements::{elements_of, has_vectors};
+pub use elements::elements_of;
 pub use end::{End, Ending, end_of, ending_of, run_through, with_job};
 pub use end_texts::{push_ending, push_limits};
 pub use ended::{Ended, ended_of, last_told};
@@ -48,7 +48,7 @@ pub use stack::{
     MOST_ENTRIES, name_at, push_calls, push_line, push_stack, push_value, push_values,
 };
 pub use state::{JobState, Traced, place_of};
-pub use step::{Step, push_made, push_step, push_step_head, step_of};
+pub use step::{Passed, Step, passed, push_made, push_step, push_step_head};
 pub use stops::{Sought, State, by_bytes, count_to, place_sought, push_none, state_sought};
 pub use text::Text;
 pub use values::{Part, ValueRange, push_list, value_range};

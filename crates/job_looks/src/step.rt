@@ -6,13 +6,13 @@ use crate::stack::push_values;
 use crate::text::Text;
 use crate::watch::Watch;
 use code_places::Spans;
-use job_history::{Next, op_of};
+use job_history::op_of;
 use job_profile::{Run, Uses};
 use job_steps::Frame;
 use refusal_notes::{Lines, kind_text};
 use std::alloc::{AllocError, Global};
-use vcode_base::{Kind, Op};
-use vcode_reader::Program;
+use vcode_base::Kind;
+use vcode_reader::{CodeLine, Program};
 
 /// The last instructions that are shown of a job.
 const MOST_STEPS: u64 = 6;
@@ -28,12 +28,19 @@ struct Mark {
     held: usize,
 }
 
+/// Where an instruction is that was executed.
+#[derive(Clone, Copy, Drop)]
+pub struct Passed {
+    /// Its line.
+    pub line: u64,
+    frame: Frame,
+}
+
 /// An instruction that was executed: its number, and its line.
 #[derive(Clone, Copy, Drop)]
 pub struct Step {
     number: u64,
     mark: Mark,
-    op: Op,
     /// The line of the instruction.
     pub line: u64,
 }
@@ -56,29 +63,33 @@ impl Mark {
     }
 }
 
-/// Executes the next instruction. `None` if it isn't executed, since it ends the job, or if there is none.
-pub fn step_of(uses: &mut Uses<Global>) -> Option<Step> {
-    let (next, frame) = coming(uses.run())?;
-    let executed = uses.executed();
+/// Executes the next instruction. Answers where it is. `None` if it isn't executed, since it ends the job, or if there is
+/// none.
+#[inline(always)]
+pub fn passed(uses: &mut Uses<Global>) -> Option<Passed> {
+    let run = uses.run();
+    let (line, executed, frame) = (run.coming().line, run.executed(), run.frames().last()?);
     uses.step();
-    let number = uses.executed();
-    if number == executed {
+    if uses.executed() == executed {
         return None;
     }
-    Some(Step {
-        number,
-        mark: Mark::after(frame, uses.run()),
-        op: next.op,
-        line: next.line,
-    })
+    Some(Passed { line, frame })
 }
 
-/// The next instruction of a run, and its frame, if the job goes on.
-#[inline(always)]
-fn coming(run: &Run<Global>) -> Option<(Next, Frame)> {
-    let next = Next::of(run)?;
-    let frame = run.frames().last()?;
-    Some((next, frame))
+impl Step {
+    /// The instruction that a run has executed last.
+    pub fn of(run: &Run<Global>, passed: Passed) -> Step {
+        Step {
+            number: run.executed(),
+            mark: Mark::after(passed.frame, run),
+            line: passed.line,
+        }
+    }
+}
+
+/// The line of the code of a program that is at a frame.
+pub(crate) fn line_at(program: &Program<Global>, frame: Frame) -> Option<CodeLine<'_>> {
+    program.functions().get(frame.function)?.item(frame.place)
 }
 
 impl Recent {
@@ -106,13 +117,12 @@ impl Recent {
     ///
     /// [`AllocError`] if memory was refused.
     pub(crate) fn step(&mut self, watch: &mut Watch) -> Result<bool, AllocError> {
-        let Some((next, frame)) = coming(watch.run()) else {
+        let run = watch.run();
+        let coming = run.coming();
+        let Some(frame) = run.frames().last() else {
             return Ok(false);
         };
-        if watch.trail.ends_with(next) {
-            return Ok(false);
-        }
-        if !watch.take(next)? {
+        if watch.trail.ends_with(coming.effect) || !watch.take(coming, frame)? {
             return Ok(false);
         }
         let run = watch.run();
@@ -132,16 +142,8 @@ impl Recent {
     /// The instruction of this number, which is one of the last that a run of a program has executed.
     fn at(&self, program: &Program<Global>, number: u64) -> Option<Step> {
         let mark = *self.marks.get((number % MOST_KEPT) as usize)?;
-        let line = program
-            .functions()
-            .get(mark.frame.function)?
-            .item(mark.frame.place)?;
-        Some(Step {
-            number,
-            mark,
-            op: op_of(&line),
-            line: line.number,
-        })
+        let line = line_at(program, mark.frame)?.number;
+        Some(Step { number, mark, line })
     }
 
     /// The instructions that a run has executed last, at most 6, the last one at the end.
@@ -197,9 +199,17 @@ fn push_result(text: &mut Text, kind: Kind, words: &[i64]) {
     text.push('\n');
 }
 
+/// The kinds of the results of an instruction that a run has executed.
+fn made_kinds(run: &Run<Global>, step: Step) -> &'static [Kind] {
+    match line_at(run.job().verified().program(), step.mark.frame) {
+        Some(line) => op_of(&line).result_kinds(),
+        None => &[],
+    }
+}
+
 /// Adds what the instruction made that a run has executed last, from the bottom of the stack up, a result on each line.
 pub fn push_made(text: &mut Text, run: &Run<Global>, step: Step) {
-    let kinds = step.op.result_kinds();
+    let kinds = made_kinds(run, step);
     for (place, kind) in kinds.iter().enumerate() {
         let above = kinds.len().saturating_sub(place).saturating_sub(1);
         if let Some(words) = run.words(above) {

@@ -1,11 +1,18 @@
 //! A run that is watched: for each vector that it holds where it comes from, and for each call where it was made.
 
 use crate::state::Traced;
-use job_history::{Next, Origin, Trail};
-use job_profile::{Run, Uses};
-use job_steps::Job;
+use crate::step::line_at;
+use job_history::{Next, Origin, Trail, op_of};
+use job_profile::{Coming, Effect, Run, Uses};
+use job_steps::{Frame, Job};
 use std::alloc::{AllocError, Global};
-use vcode_base::Rule;
+use vcode_base::{Op, Rule};
+
+/// The instruction at a frame of a run.
+fn op_at(run: &Run<Global>, frame: Frame) -> Option<Op> {
+    let line = line_at(run.job().verified().program(), frame)?;
+    Some(op_of(&line))
+}
 
 /// A run with its trail.
 #[derive(Drop)]
@@ -79,18 +86,32 @@ impl Watch {
         self.trail.origin(self.run(), depth)
     }
 
-    /// Executes the next instruction, which is this one; true if the job goes on.
+    /// Executes the next instruction, which is at this frame and does this on its line; true if the job goes on.
     ///
     /// # Errors
     ///
     /// [`AllocError`] if memory was refused. The trail isn't that of the run then.
     #[inline(always)]
-    pub fn take(&mut self, next: Next) -> Result<bool, AllocError> {
+    pub fn take(&mut self, coming: Coming, frame: Frame) -> Result<bool, AllocError> {
         if !self.uses.step() {
             return Ok(false);
         }
-        self.trail.follow(next, self.uses.run())?;
+        match coming.effect {
+            Effect::Calls => self.trail.call(coming.line, self.uses.run())?,
+            Effect::Returns => self.trail.leave(),
+            Effect::Computes => self.make(coming.line, frame)?,
+            Effect::Moves(_) | Effect::Nothing => {}
+        }
         Ok(true)
+    }
+
+    /// Follows an instruction with operands or results that was executed, which is at a frame and on a line.
+    fn make(&mut self, line: u64, frame: Frame) -> Result<(), AllocError> {
+        let run = self.uses.run();
+        match op_at(run, frame) {
+            Some(op) => self.trail.make(op, line, run),
+            None => Ok(()),
+        }
     }
 
     /// Executes the next instruction; true if the job goes on.
@@ -99,8 +120,10 @@ impl Watch {
     ///
     /// As of [`Watch::take`].
     pub fn step(&mut self) -> Result<bool, AllocError> {
-        match Next::of(self.run()) {
-            Some(next) => self.take(next),
+        let run = self.run();
+        let coming = run.coming();
+        match run.frames().last() {
+            Some(frame) => self.take(coming, frame),
             None => Ok(false),
         }
     }

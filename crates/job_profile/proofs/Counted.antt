@@ -1,24 +1,34 @@
 -- A profile after a step.
-use Rattle.std.proofs.Common.{add-one, List, ◌≡◌, ◌≢◌, ℕ, ◌+◌, ◌<◌, ◌≤◌, cond, []}
+use Rattle.std.proofs.Common.{add-one, List, Option, None, Some, refl, ◌≡◌, ◌≢◌, ℕ, ◌+◌, ◌<◌, ◌≤◌, cond, []}
 use Rattle.std.proofs.Common.{get_or, length, max, sym, ◌∙◌, ap, arith}
 use Rattle.std.specs.Prelude.{nat_lt}
 use Rattle.std.proofs.Math.ListN.{set}
 use Rattle.std.proofs.lemmas.Bool.Decides.{nat_tests}
 use Rattle.std.proofs.lemmas.List.Sums.{get_or-le-sum_by}
+use Rattle.vcode_reader.specs.Trees.{CodeLine}
 use Rattle.job_steps.specs.Reached.{IsVerifiedBySome}
 use Rattle.job_steps.specs.Runs.{executed_count_in, peak_in, state_after}
 use Rattle.job_steps.specs.Standings.{held_in}
 use Rattle.job_steps.specs.States.{Task}
 use Rattle.job_steps.specs.Steps.{Progress}
 use Rattle.job_slots.specs.Answers.{demand_in}
+use Rattle.job_profile.specs.declared.coming.Coming.{Coming}
 use Rattle.job_profile.specs.declared.strip.Column.{Column}
+use Rattle.job_profile.specs.Comings.{coming_by, coming_in}
 use Rattle.job_profile.specs.Columns.{AreFine, column_at, highest}
-use Rattle.job_profile.specs.Counts.{IsFirstPeak, line_in, times_until}
+use Rattle.job_profile.specs.Counts.{IsFirstPeak, line_in, number_of, times_until}
 use Rattle.job_profile.specs.Moves.{HasExecuted, HasMoved}
 use Rattle.job_profile.specs.Sound.{CountAlike, IsProfile}
 use Rattle.job_profile.specs.Strips.{IsStrip}
-use Rattle.job_profile.specs.Walks.{HasCome, RunState, progress_of}
+use Rattle.job_profile.specs.Walks.{HasCome, RunState, next_line_in, progress_of}
 use Rattle.job_profile.proofs.Lists.{IsMore, more_by}
+
+number_coming : (line : Option CodeLine) → (coming_by line).line ≡ number_of line
+number_coming None = refl
+number_coming (Some line) = refl
+
+pub line_coming : (p : Progress) → (coming_in p).line ≡ line_in p
+line_coming p = number_coming (next_line_in p)
 
 -- ---- the counts after an instruction
 
@@ -42,23 +52,27 @@ peaks_by : (task : Task) (n peak most after : ℕ) → IsFirstPeak task peak aft
 peaks_by task n peak most after first rises reached more = grind (arith, nat_tests)
 
 -- nothing is executed
-pub first_profile : (task : Task) → IsVerifiedBySome task.verified → IsProfile task (state_after task 0) [] 0 [] 1 0
+pub first_profile : (task : Task) (coming : Coming) → IsVerifiedBySome task.verified →
+    coming ≡ coming_in (state_after task 0) → IsProfile task (state_after task 0) [] 0 [] 1 0 coming
 unfolding times_until
-first_profile task verified = grind arith
+first_profile task coming verified is = grind arith
 
 -- ---- a step of a profile
 
 -- the same of the job after the step
 pub of_new : {task : Task} {p : Progress} {new : RunState} {times : List ℕ} {after : ℕ} {columns : List Column}
-    {each room : ℕ} → HasCome task p new → IsProfile task (progress_of new) times after columns each room →
-    IsProfile new.task (progress_of new) times after columns each room
+    {each room : ℕ} {coming : Coming} → HasCome task p new →
+    IsProfile task (progress_of new) times after columns each room coming →
+    IsProfile new.task (progress_of new) times after columns each room coming
 of_new come h = grind arith
 
 module _ {task : Task} {p q : Progress} {was grown : List ℕ} {after : ℕ} {columns : List Column} {each room : ℕ}
-    (h : IsProfile task p was after columns each room) (moved : HasMoved task p q) (alike : CountAlike was grown) where
+    {coming next : Coming} (h : IsProfile task p was after columns each room coming) (moved : HasMoved task p q)
+    (alike : CountAlike was grown) where
   -- no instruction was executed
-  pub stays : executed_count_in q ≡ executed_count_in p → IsProfile task q grown after columns each room
-  stays same = grind arith
+  pub stays : executed_count_in q ≡ executed_count_in p → next ≡ coming_in q →
+      IsProfile task q grown after columns each room next
+  stays same is = grind arith
 
   -- one was
   executes : executed_count_in q ≢ executed_count_in p → HasExecuted task p q
@@ -86,9 +100,9 @@ module _ {task : Task} {p q : Progress} {was grown : List ℕ} {after : ℕ} {co
       times ≡ set grown column.line (get_or grown column.line 0 + 1) →
       later ≡ cond (nat_lt (peak_in p) (peak_in q)) (executed_count_in q) after →
       (executed_count_in q ≡ executed_count_in p + 1 → column.most ≡ demand_in task.rule p) →
-      column.least ≡ held_in q → IsProfile task q times later more each' room'
+      column.least ≡ held_in q → next ≡ coming_in q → IsProfile task q times later more each' room' next
   counts other {column} {more} {each'} {room'} {later} {times} strip fine greatest there line_is times_is later_is asked
-      least_is =
+      least_is next_is =
       record {
         on_run = moved.on_run;
         counted = record {
@@ -100,6 +114,7 @@ module _ {task : Task} {p q : Progress} {was grown : List ℕ} {after : ℕ} {co
           fine = rw x.executed (fine (column_at task) n h.counted.strip);
           highest_is = omega (arith, greatest, h.counted.highest_is, asked x.executed, x.peak_is);
         };
+        coming_is = next_is;
       }
     where
       n : ℕ

@@ -1,4 +1,5 @@
 pub mod Columns
+pub mod Comings
 pub mod Counts
 pub mod Moves
 pub mod Sound

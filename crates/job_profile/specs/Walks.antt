@@ -3,10 +3,7 @@ use Rattle.std.specs.Prelude.{◌≡◌, ℕ, ℤ, ◌+◌, Bool, true, false, L
 use Rattle.std.specs.Prelude.{refl, reverse, map}
 use Rattle.std.specs.Coded.{Coded, code_by, coded×}
 use Rattle.vcode_base.specs.declared.rule.Rule.{Rule}
-use Rattle.vcode_base.specs.declared.instr.Instr.TheVariants.{Call, Move, Return}
-use Rattle.vcode_reader.specs.declared.line.CodeItem.{CodeItem}
-use Rattle.vcode_reader.specs.declared.line.CodeItem.TheVariants as code_item
-use Rattle.vcode_reader.specs.Trees.{CodeLine, Item}
+use Rattle.vcode_reader.specs.Trees.{CodeLine}
 use Rattle.job_steps.specs.declared.frame.Frame.{Frame}
 use Rattle.job_steps.specs.Frames.{StandAll, next_line}
 use Rattle.job_steps.specs.Runs.{state_after, outcome, executed_count, peak}
@@ -104,18 +101,6 @@ abbrev pub next_line_in : Progress → Option CodeLine
 next_line_in (Running s) = first_next_line s.calls
 next_line_in (Over ending executed peak) = None
 next_line_in Stuck = None
-
--- The instruction of a line moves entries or calls, so that it takes no operand and has no result.
-abbrev pub does_move : CodeItem Item → Bool
-does_move (code_item.Do (Move motion lower upper)) = true
-does_move (code_item.Do (Call name)) = true
-does_move (code_item.Do Return) = true
-does_move item = false
-
--- there is a line, and its instruction moves entries or calls
-abbrev pub does_move_in : Option CodeLine → Bool
-does_move_in None = false
-does_move_in (Some line) = does_move line.item
 
 -- the frames, that of the innermost call last, are at the calls
 abbrev pub StandAt : Task → List Frame → Progress → Type 0

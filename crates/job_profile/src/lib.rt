@@ -5,7 +5,8 @@
 //! shows the state of the run: the words of the entries and which of them are copies, the calls, the next line, and the
 //! counts. A run is a function of its job, so nothing is recorded: to look at an earlier state the run is made anew.
 //! `specs/Walks.antt` says what there is at a state, over the definitions of `job_steps`. `specs/SoundRun.antt` says
-//! when what a run keeps is that of its job.
+//! when what a run keeps is that of its job. A [`Coming`] is what each step has to know of the next line:
+//! `specs/Comings.antt` says what that is.
 //!
 //! [`Uses`] follows a run and knows the most words, entries and calls so far, and the least limits of a job that
 //! returned. `specs/Used.antt` has the definitions. It also goes on to the first state at which a [`Stop`] holds, which
@@ -16,6 +17,7 @@
 //! `specs/Strips.antt` and `specs/Sound.antt` say when what a profile keeps is that of its run.
 #![tactic(auto)]
 
+mod coming;
 mod profile;
 mod run;
 mod stop;
@@ -23,6 +25,7 @@ mod strip;
 mod times;
 mod uses;
 
+pub use coming::{Coming, Effect};
 pub use profile::Profile;
 pub use run::Run;
 pub use stop::Stop;

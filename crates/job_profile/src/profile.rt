@@ -4,10 +4,13 @@
 ghost use Rattle.std.specs.Prelude.{◌≡◌, ℕ, nat_lt, if◌then◌else◌, IfOk, OnErr, OnOk, slice_index, sum};
 ghost use Rattle.job_steps.specs.Runs.{executed_count_in, peak_in, progress_from};
 ghost use Rattle.job_steps.specs.States.{ruled};
+ghost use Rattle.job_slots.specs.Answers.{told_demand_in};
 ghost use Rattle.job_profile.specs.Walks.{HasCome, ending_at, ending_of, first_run, goes_on, progress_of};
 ghost use Rattle.job_profile.specs.Columns.{AreColumns, highest};
-ghost use Rattle.job_profile.specs.Counts.{IsFirstPeak, line_in, times_of, times_until};
+ghost use Rattle.job_profile.specs.Comings.{coming_in};
+ghost use Rattle.job_profile.specs.Counts.{IsFirstPeak, times_of, times_until};
 
+use crate::coming::Coming;
 use crate::run::{Run, steps_move};
 use crate::strip::{Column, Strip};
 use crate::times::{count, grow, part, sum_of};
@@ -29,6 +32,7 @@ pub struct Profile<A: Allocator> {
     times: Vec<u64, A>,
     peak_after: u64,
     strip: Strip<A>,
+    coming: Coming,
 }
 
 impl<A: Allocator> Model for Profile<A> {
@@ -47,26 +51,17 @@ impl<A: Allocator> Model for Profile<A> {
     ghost view = { λ p. p.uses };
 
     ghost invariant = { λ p. IsProfile p.uses.task (progress_of p.uses) p.times.items p.peak_after
-        p.strip.columns.items p.strip.each p.strip.room };
+        p.strip.columns.items p.strip.each p.strip.room p.coming };
 }
 
-/// The number of the line of the next instruction, and 0 if the run is over.
+/// Notes after how many instructions the peak was first reached, which is the second of these now.
 #[inline(always)]
-fn next_place<A: Allocator>(run: &Run<A>) -> usize
-    ensures { result ≡ line_in (progress_of run.now) }
+fn note_peak(after: &mut u64, before: usize, peak: usize, executed: u64)
+    ensures { after.new ≡ (if nat_lt before peak then executed else after.old) }
 {
-    match run.next_line() {
-        Some(line) => line.number as usize,
-        None => 0,
+    if before < peak {
+        *after = executed;
     }
-}
-
-/// The first of two counts of instructions at which the peak is the second of these.
-#[inline(always)]
-fn first_reached(before: usize, peak: usize, after: u64, executed: u64) -> u64
-    ensures { result ≡ (if nat_lt before peak then executed else after) }
-{
-    if before < peak { executed } else { after }
 }
 
 impl<A: Allocator + Clone> Profile<A> {
@@ -80,11 +75,13 @@ impl<A: Allocator + Clone> Profile<A> {
         let strip = Strip::new(alloc.clone()?)?;
         let times = Vec::new(alloc.clone()?);
         let uses = Uses::new(alloc, rule, job)?;
+        let coming = uses.run().coming();
         Ok(Profile {
             uses,
             times,
             peak_after: 0,
             strip,
+            coming,
         })
     }
 
@@ -117,24 +114,41 @@ impl<A: Allocator> Profile<A> {
         ensures unchanged { OnErr result (self.new ≡ self.old) }
     {
         steps_move();
+        let line = self.coming.line as usize;
+        grow(&mut self.times, line)?;
         let run = self.uses.run();
-        let (line, most, executed, peak) = (
-            next_place(run),
-            run.demand(),
+        let (most, executed, peak) = (
+            run.demand_by(self.coming.effect),
             run.executed(),
             run.peak(),
         );
-        grow(&mut self.times, line)?;
         let goes_on = self.uses.step();
         let run = self.uses.run();
+        self.coming = run.coming();
         let (now, least) = (run.executed(), run.held());
         if now == executed {
             return Ok(goes_on);
         }
-        self.peak_after = first_reached(peak, run.peak(), self.peak_after, now);
+        note_peak(&mut self.peak_after, peak, run.peak(), now);
         count(&mut self.times, line);
         self.strip.add(Column { most, least, line });
         Ok(goes_on)
+    }
+
+    /// What the next instruction does, and its line.
+    #[inline(always)]
+    pub fn coming(&self) -> Coming
+        ensures { result ≡ coming_in (progress_of self.now) }
+    {
+        self.coming
+    }
+
+    /// The words that the run holds and needs at its next instruction, as [`Run::demand`] answers them.
+    #[inline(always)]
+    pub fn demand(&self) -> usize
+        ensures { result ≡ told_demand_in self.now.task.rule (progress_of self.now) }
+    {
+        self.uses.run().demand_by(self.coming.effect)
     }
 
     /// What the run uses of its limits.

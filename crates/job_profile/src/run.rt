@@ -9,8 +9,10 @@ ghost use Rattle.job_steps.specs.States.{ruled};
 ghost use Rattle.job_slots.specs.Answers.{demand_in, told_demand_in, told_need_in};
 ghost use Rattle.job_profile.specs.Moves.{StepsMove};
 ghost use Rattle.job_profile.specs.Walks.{AreSame, HasCome, StandAt, ending_at, ending_of, first_run, goes_on};
-ghost use Rattle.job_profile.specs.Walks.{does_move, does_move_in, lists_in, next_line_in, progress_of, tags_in};
+ghost use Rattle.job_profile.specs.Comings.{coming_in};
+ghost use Rattle.job_profile.specs.Walks.{lists_in, next_line_in, progress_of, tags_in};
 
+use crate::coming::{Coming, Effect, coming_by, does_move};
 use block_memory::BlockId;
 use job_memory::JobMemory;
 use job_slots::laws::{new_is_shown, shown_are_live, shown_are_reached, shown_is_alone};
@@ -21,8 +23,8 @@ use job_steps::laws::{
 use job_steps::{Desk, Frames, Job};
 use std::alloc::{AllocError, Allocator};
 use std::marker::Model;
-use vcode_base::{Instr, Instruction, Outcome, Rule, Values};
-use vcode_reader::{CodeItem, CodeLine};
+use vcode_base::{Outcome, Rule, Values};
+use vcode_reader::CodeLine;
 
 /// The number of the job in its memory.
 const ONLY_JOB: usize = 1;
@@ -174,14 +176,26 @@ impl<A: Allocator> Run<A> {
     /// If the instruction's operands don't fit one another, these are only the words that it holds. If they are more
     /// than the greatest `u64`, they are answered as that.
     #[inline(always)]
-    #[tactic(auto, using(crate::proofs::Moved::demand_moved, crate::proofs::Moved::told_moved))]
     pub fn demand(&self) -> usize
         ensures executed { executed_count_in (progress_from self.now.task (progress_of self.now))
             ≡ executed_count_in (progress_of self.now) + 1
             → result ≡ demand_in self.now.task.rule (progress_of self.now) }
         ensures told { result ≡ told_demand_in self.now.task.rule (progress_of self.now) }
     {
-        if does_move_in(self.next_line()) {
+        self.demand_by(self.coming().effect)
+    }
+
+    /// The same, if it is known what the next instruction does.
+    #[inline(always)]
+    #[tactic(auto, using(crate::proofs::Moved::demand_moved, crate::proofs::Moved::told_moved))]
+    pub(crate) fn demand_by(&self, effect: Effect) -> usize
+        requires { effect ≡ (coming_in (progress_of self.now)).effect }
+        ensures executed { executed_count_in (progress_from self.now.task (progress_of self.now))
+            ≡ executed_count_in (progress_of self.now) + 1
+            → result ≡ demand_in self.now.task.rule (progress_of self.now) }
+        ensures told { result ≡ told_demand_in self.now.task.rule (progress_of self.now) }
+    {
+        if does_move(effect) {
             return self.held();
         }
         self.read_demand()
@@ -314,6 +328,14 @@ impl<A: Allocator> Run<A> {
         Some(self.slot.track().line(self.job.verified().program()))
     }
 
+    /// What the next instruction does, and its line.
+    #[inline(always)]
+    pub fn coming(&self) -> Coming
+        ensures { result ≡ coming_in (progress_of self.now) }
+    {
+        coming_by(self.next_line())
+    }
+
     /// How the job ended, if that is collected.
     pub fn ending(&self) -> Option<&Outcome<Values<A>>>
         ensures { option_copied result ≡ ending_of self.now }
@@ -351,30 +373,6 @@ pub(crate) fn steps_move()
     others_are_ready();
     never_stuck();
     reached();
-}
-
-/// Whether an instruction moves entries or calls: it takes no operand and has no result.
-#[inline(always)]
-fn does_move(item: &CodeItem<Instruction<'_>>) -> bool
-    ensures { result ≡ does_move item.now }
-{
-    match item {
-        CodeItem::Do(Instr::Move(..)) => true,
-        CodeItem::Do(Instr::Call(_)) => true,
-        CodeItem::Do(Instr::Return) => true,
-        CodeItem::Do(_) | CodeItem::If | CodeItem::Else | CodeItem::Endif => false,
-    }
-}
-
-/// Whether there is a line, and its instruction moves entries or calls.
-#[inline(always)]
-fn does_move_in(line: Option<CodeLine<'_>>) -> bool
-    ensures { result ≡ does_move_in line.entry }
-{
-    match line {
-        Some(line) => does_move(&line.item),
-        None => false,
-    }
 }
 
 /// The cell at this depth, 0 at the top, if there is one.

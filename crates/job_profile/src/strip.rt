@@ -38,6 +38,20 @@ fn joined(first: Column, second: Column) -> Column
     }
 }
 
+/// Puts a column into the one before it.
+#[inline(always)]
+fn join(first: &mut Column, second: Column)
+    ensures { first.new ≡ joined first.old second }
+{
+    if first.most < second.most {
+        first.most = second.most;
+        first.line = second.line;
+    }
+    if second.least < first.least {
+        first.least = second.least;
+    }
+}
+
 /// Puts each two columns into the first half, as one.
 fn join_pairs<A: Allocator>(columns: &mut Vec<Column, A>)
     ensures joined { AreJoined columns.old.items columns.new.items }
@@ -119,7 +133,7 @@ impl<A: Allocator> Strip<A> {
         ensures room { self.new.room ≡ self.old.room - 1 }
     {
         let last = self.columns.len() - 1;
-        self.columns[last] = joined(self.columns[last], next);
+        join(&mut self.columns[last], next);
         self.room -= 1;
     }
 

@@ -1,6 +1,6 @@
 //! What a run uses of each limit.
 
-ghost use Rattle.std.specs.Prelude.{◌≡◌, IfOk, MatchOption, OnErr, OnOk};
+ghost use Rattle.std.specs.Prelude.{◌≡◌, max, IfOk, MatchOption, OnErr, OnOk};
 ghost use Rattle.job_steps.specs.LeastLimits.{calls_in, cells_in};
 ghost use Rattle.job_steps.specs.Runs.{executed_count_in, peak_in, progress_from};
 ghost use Rattle.job_steps.specs.States.{ruled};
@@ -44,6 +44,16 @@ impl<A: Allocator> Model for Uses<A> {
     ghost invariant = { λ u. AreUses u.run.task (progress_of u.run) u.cells u.calls };
 }
 
+/// The most so far, of which there are this many now.
+#[inline(always)]
+fn raise(most: &mut usize, now: usize)
+    ensures { most.new ≡ max most.old now }
+{
+    if *most < now {
+        *most = now;
+    }
+}
+
 impl<A: Allocator + Clone> Uses<A> {
     /// A job that hasn't executed anything. Takes memory for the run, and an error means that the allocator refused it.
     #[tactic(auto, using(crate::proofs::Used::first_uses))]
@@ -79,8 +89,8 @@ impl<A: Allocator> Uses<A> {
     {
         steps_move();
         let goes_on = self.run.step();
-        self.cells = self.cells.max(self.run.depth());
-        self.calls = self.calls.max(self.run.calls());
+        raise(&mut self.cells, self.run.depth());
+        raise(&mut self.calls, self.run.calls());
         goes_on
     }
 

@@ -1,11 +1,11 @@
 //! What a job holds at its peak, by the lines that made it, and what of it is read later.
 
 use job_history::{Next, Origin, Trail};
-use job_looks::has_vectors;
-use job_profile::Run;
+use job_profile::{Effect, Run};
 use std::alloc::{AllocError, Global};
 use std::ops::Range;
-use vcode_base::{Op, StackMove};
+use vcode_base::{Instr, Kind, StackMove};
+use vcode_reader::{CodeItem, CodeLine};
 
 /// A vector that a run holds: its words, how many entries have it, after how many peaks it was made, and the peak of
 /// which it has a note, with the place of that.
@@ -28,12 +28,21 @@ struct Note {
     is_read: bool,
 }
 
-/// What a run holds: its vectors, each at the number of its block; the blocks of the operands of the next instruction;
-/// the most words so far, how often they were passed, and the line at which they were passed last; and notes on the
+/// An instruction that takes operands or makes results: how many elements its operands have, and the kinds of its results
+/// from the bottom of the stack up.
+#[derive(Clone, Copy, Drop)]
+pub(crate) struct Work {
+    pub(crate) elements: u64,
+    pub(crate) results: &'static [Kind],
+}
+
+/// What a run holds: its vectors, each at the number of its block; the next instruction with the elements of its
+/// operands, and the blocks of these, if it has operands or results; the most words so far, how often they were passed, and the line at which they were passed last; and notes on the
 /// vectors that were held before that, each from the first change on.
 #[derive(Drop)]
 pub(crate) struct Holds {
     vectors: Vec<Vector>,
+    work: Work,
     taken: Vec<usize>,
     peak: usize,
     peaks: u64,
@@ -69,10 +78,20 @@ pub struct Holdings {
     pub unread: Option<usize>,
 }
 
-/// The depths of the entries that a COPY or a POP moves.
-fn moved(lower: u16, upper: u16) -> Range<usize> {
-    let first = usize::from(upper);
-    first..first.saturating_add(usize::from(lower))
+/// The depths of the entries that the next instruction of a run moves, if it is a COPY or a POP.
+fn moved(run: &Run<Global>) -> Range<usize> {
+    match run.next_line() {
+        Some(
+            CodeLine {
+                item: CodeItem::Do(Instr::Move(_, lower, upper)),
+                ..
+            },
+        ) => {
+            let first = usize::from(upper);
+            first..first.saturating_add(usize::from(lower))
+        }
+        _ => 0..0,
+    }
 }
 
 impl Vector {
@@ -107,6 +126,10 @@ impl Holds {
     pub(crate) fn new(alloc: Global, run: &Run<Global>) -> Holds {
         Holds {
             vectors: Vec::new(alloc),
+            work: Work {
+                elements: 0,
+                results: &[],
+            },
             taken: Vec::new(alloc),
             peak: 0,
             peaks: 0,
@@ -167,14 +190,9 @@ impl Holds {
         }
     }
 
-    /// Counts copies of entries of a run.
-    fn copy(
-        &mut self,
-        trail: &Trail<Global>,
-        run: &Run<Global>,
-        depths: Range<usize>,
-    ) -> Result<(), AllocError> {
-        for depth in depths {
+    /// Counts copies of entries of a run, which the next instruction makes.
+    fn copy(&mut self, trail: &Trail<Global>, run: &Run<Global>) -> Result<(), AllocError> {
+        for depth in moved(run) {
             if let Some(block) = run.block(depth) {
                 self.note(trail, block)?;
                 if let Some(vector) = self.vectors.get_mut(block) {
@@ -185,14 +203,9 @@ impl Holds {
         Ok(())
     }
 
-    /// Counts entries of a run that go.
-    fn pop(
-        &mut self,
-        trail: &Trail<Global>,
-        run: &Run<Global>,
-        depths: Range<usize>,
-    ) -> Result<(), AllocError> {
-        for depth in depths {
+    /// Counts entries of a run that go with the next instruction.
+    fn pop(&mut self, trail: &Trail<Global>, run: &Run<Global>) -> Result<(), AllocError> {
+        for depth in moved(run) {
             if let Some(block) = run.block(depth) {
                 self.note(trail, block)?;
                 self.drop_entry(block);
@@ -201,57 +214,54 @@ impl Holds {
         Ok(())
     }
 
-    /// Notes which blocks the operands of the next instruction of a run have.
-    fn take(&mut self, run: &Run<Global>, op: Op) -> Result<(), AllocError> {
+    /// Looks at the operands of the next instruction of a run.
+    fn take(&mut self, run: &Run<Global>) -> Result<(), AllocError> {
+        let Some(Next { op, .. }) = Next::of(run) else {
+            return Ok(());
+        };
+        let (operands, results) = (op.operand_kinds().len(), op.result_kinds());
         self.taken.clear();
-        for depth in 0..op.operand_kinds().len() {
-            if let Some(block) = run.block(depth) {
+        let mut elements: u64 = 0;
+        for depth in 0..operands {
+            if let (Some(block), Some(words)) = (run.block(depth), run.words(depth)) {
                 self.taken.push(block)?;
+                elements = elements.saturating_add(words.len() as u64);
             }
         }
+        self.work = Work { elements, results };
         Ok(())
     }
 
-    /// Looks at the next instruction of a run: at the entries that it copies or pops, or at its operands.
+    /// Looks at the next instruction of a run, which does this: at the entries that it copies or pops, or at its
+    /// operands.
     #[inline(always)]
     pub(crate) fn look(
         &mut self,
         trail: &Trail<Global>,
         run: &Run<Global>,
-        op: Op,
+        effect: Effect,
     ) -> Result<(), AllocError> {
-        match op {
-            Op::Call | Op::Return | Op::Move(StackMove::MoveToTop, ..) => Ok(()),
-            Op::Move(StackMove::Copy, lower, upper) => self.copy(trail, run, moved(lower, upper)),
-            Op::Move(StackMove::Pop, lower, upper) => self.pop(trail, run, moved(lower, upper)),
-            Op::Const(_) | Op::Elementwise(_) | Op::Segmented(_) | Op::If => self.take(run, op),
+        match effect {
+            Effect::Computes => self.take(run),
+            Effect::Moves(StackMove::Copy) => self.copy(trail, run),
+            Effect::Moves(StackMove::Pop) => self.pop(trail, run),
+            Effect::Moves(StackMove::MoveToTop)
+            | Effect::Calls
+            | Effect::Returns
+            | Effect::Nothing => Ok(()),
         }
     }
 
-    /// Follows an instruction that a run has executed, after it was looked at.
-    #[inline(always)]
-    pub(crate) fn follow(
+    /// Follows an instruction of a line with operands or results, which was looked at and which a run has executed, up to
+    /// its results. Answers what it was.
+    pub(crate) fn release(
         &mut self,
         trail: &Trail<Global>,
         run: &Run<Global>,
-        next: Next,
-    ) -> Result<(), AllocError> {
-        if has_vectors(next.op) {
-            self.replace(trail, run, next)
-        } else {
-            Ok(())
-        }
-    }
-
-    /// Follows an instruction with operands or results.
-    fn replace(
-        &mut self,
-        trail: &Trail<Global>,
-        run: &Run<Global>,
-        next: Next,
-    ) -> Result<(), AllocError> {
+        line: u64,
+    ) -> Result<Work, AllocError> {
         if run.peak() > self.peak {
-            self.pass(run.peak(), next.line);
+            self.pass(run.peak(), line);
         }
         for place in 0..self.taken.len() {
             if let Some(block) = self.taken.get(place).copied() {
@@ -259,7 +269,7 @@ impl Holds {
                 self.drop_entry(block);
             }
         }
-        self.make(run, next.op.result_kinds().len())
+        Ok(self.work)
     }
 
     /// Notes that the most words were passed at a line.
@@ -270,19 +280,9 @@ impl Holds {
         self.notes.clear();
     }
 
-    /// Adds the vectors of this many entries at the top of the stack of a run.
-    fn make(&mut self, run: &Run<Global>, count: usize) -> Result<(), AllocError> {
-        for depth in 0..count {
-            if let (Some(block), Some(words)) = (run.block(depth), run.words(depth)) {
-                self.put(block, words.len())?;
-            }
-        }
-        Ok(())
-    }
-
     /// Adds a vector of this many words, of which there is one entry, in a block.
     #[inline(always)]
-    fn put(&mut self, block: usize, words: usize) -> Result<(), AllocError> {
+    pub(crate) fn put(&mut self, block: usize, words: usize) -> Result<(), AllocError> {
         for _ in self.vectors.len()..=block {
             self.vectors.push(Vector::NONE)?;
         }

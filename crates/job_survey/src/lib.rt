@@ -10,4 +10,4 @@ mod survey;
 
 pub use holders::{Holder, Holdings};
 pub use levels::{Counted, Levels};
-pub use survey::{Again, Counts, Survey, Words};
+pub use survey::{Again, Counts, LastPlace, Survey, Words};

@@ -5,9 +5,9 @@ use job_history::Trail;
 use job_looks::{
     BeforeEnd, End, Ending, MOST_ENTRIES, Picture, Traced, before_of, end_of, ending_of,
 };
-use job_profile::{Profile, Run};
-use job_steps::Job;
-use job_tally::{Bands, Before, Chains, Stretch, Tally, changes_call};
+use job_profile::{Coming, Effect, Profile, Run};
+use job_steps::{Frame, Job};
+use job_tally::{Bands, Chains, Stretch, Tally, innermost};
 use std::alloc::{AllocError, Global};
 use vcode_base::{MemoryFault, Rule};
 
@@ -19,6 +19,15 @@ pub enum Words {
     Counted,
     /// They aren't.
     LeftOut,
+}
+
+/// Where an instruction is: its line, and its frame.
+#[derive(Clone, Copy, Drop)]
+pub struct LastPlace {
+    /// Its line.
+    pub line: u64,
+    /// Its frame.
+    pub frame: Frame,
 }
 
 /// What is counted of a run.
@@ -45,8 +54,8 @@ pub struct Survey {
     holds: Holds,
     steps: u64,
     picture: Option<Picture>,
-    /// The last instruction that was next, if there was one.
-    pub last: Option<Before>,
+    /// Where the last instruction is that was next, if there was one.
+    pub last: Option<LastPlace>,
 }
 
 /// How a job ended, and of what more is shown.
@@ -73,42 +82,64 @@ impl Counts {
         })
     }
 
-    /// The words that are held and needed at the next instruction of a run, if they are counted.
+    /// The words that are held and needed at the next instruction of a profile's run, if they are counted.
     #[inline(always)]
-    fn words_at(&self, run: &Run<Global>) -> Option<usize> {
+    fn words_at(&self, profile: &Profile<Global>) -> Option<usize> {
         match self.words {
-            Words::Counted => Some(run.demand()),
+            Words::Counted => Some(profile.demand()),
             Words::LeftOut => None,
         }
     }
 
-    /// Counts what the innermost call, which is of a function, has executed itself since it began or went on. Columns
-    /// are of `each` instructions now.
+    /// Counts what the innermost call of a run, which is of a function, has executed itself since it began or went on.
+    /// Columns are of `each` instructions now.
     #[inline(always)]
-    fn end_stretch(&mut self, function: usize, each: u64) -> Result<(), AllocError> {
-        let own = self.stretch.end();
-        if own.instructions == 0 {
-            return Ok(());
+    fn end_stretch(
+        &mut self,
+        function: usize,
+        each: u64,
+        run: &Run<Global>,
+    ) -> Result<(), AllocError> {
+        let all = self.stretch.all(run);
+        let own = self.stretch.end(all);
+        if !self.chains.count(own) {
+            self.tally.count_own(function, own);
         }
-        self.tally.count_own(function, own);
-        self.chains.count(own);
-        let last = self.stretch.all.instructions;
-        self.bands.count(function, own.instructions, last, each)
+        self.bands
+            .count(function, own.instructions, all.instructions, each)
     }
 
-    /// Counts an instruction that a run has executed and after which another call is the innermost.
+    /// Counts a CALL that a run has executed in a function.
     #[inline(always)]
-    fn change(&mut self, before: Before, each: u64, run: &Run<Global>) -> Result<(), AllocError> {
-        self.end_stretch(before.function, each)?;
-        self.tally.change(before, self.stretch.all, run);
-        self.chains.change(before, run)
+    fn call(&mut self, function: usize, each: u64, run: &Run<Global>) -> Result<(), AllocError> {
+        self.end_stretch(function, each, run)?;
+        let callee = innermost(run);
+        self.tally.enter(callee, self.stretch.all(run));
+        self.chains.call(callee)
     }
 
-    /// Counts the ends of all calls, of which the innermost is of a function.
-    fn end_all(&mut self, function: usize, each: u64) -> Result<(), AllocError> {
-        self.end_stretch(function, each)?;
-        self.tally.leave_all(self.stretch.all);
+    /// Counts a RET that a run has executed in a function.
+    #[inline(always)]
+    fn leave(&mut self, function: usize, each: u64, run: &Run<Global>) -> Result<(), AllocError> {
+        self.end_stretch(function, each, run)?;
+        self.tally.leave(function, self.stretch.all(run));
+        self.chains.leave();
         Ok(())
+    }
+
+    /// Counts the elements of an instruction of a line.
+    #[inline(always)]
+    fn add(&mut self, line: u64, elements: u64) -> Result<(), AllocError> {
+        self.stretch.add(elements);
+        self.tally.count(line, elements)
+    }
+
+    /// Counts the ends of all calls of a run, of which the innermost is of a function.
+    fn end_all(&mut self, function: usize, each: u64, run: &Run<Global>) -> Result<(), AllocError> {
+        self.end_stretch(function, each, run)?;
+        self.tally.count_chains(self.chains.chains());
+        self.tally.leave_all(self.stretch.all(run));
+        self.bands.end()
     }
 }
 
@@ -160,7 +191,7 @@ impl Survey {
     /// The line of the last instruction that was next, or 0 if there was none.
     pub fn last_line(&self) -> u64 {
         match self.last {
-            Some(last) => last.next.line,
+            Some(last) => last.line,
             None => 0,
         }
     }
@@ -175,49 +206,61 @@ impl Survey {
         self.profile.run()
     }
 
-    /// Counts an instruction that was executed, whose operands and results have this many elements, and at which these
-    /// words were held and needed, if they are counted.
+    /// Counts and follows an instruction of a function that was executed.
     #[inline(always)]
-    fn count(
-        &mut self,
-        before: Before,
-        elements: u64,
-        words: Option<usize>,
-    ) -> Result<(), AllocError> {
-        self.counts.stretch.all.add(elements);
-        self.counts.tally.count(before, elements)?;
-        if let Some(words) = words {
-            self.counts.tally.count_words(before, words)?;
+    fn follow(&mut self, coming: Coming, function: usize) -> Result<(), AllocError> {
+        let (each, _) = self.profile.columns();
+        let run = self.profile.run();
+        match coming.effect {
+            Effect::Calls => {
+                self.counts.call(function, each, run)?;
+                self.trail.call(coming.line, run)
+            }
+            Effect::Returns => {
+                self.counts.leave(function, each, run)?;
+                self.trail.leave();
+                Ok(())
+            }
+            Effect::Computes => self.follow_work(coming.line),
+            Effect::Moves(_) | Effect::Nothing => Ok(()),
         }
-        if changes_call(before.next.op) {
-            let (each, _) = self.profile.columns();
-            let run = self.profile.run();
-            return self.counts.change(before, each, run);
-        }
-        Ok(())
     }
 
-    /// Follows an instruction that was executed and counted.
-    #[inline(always)]
-    fn follow(&mut self, before: Before) -> Result<(), AllocError> {
+    /// Counts and follows an instruction of a line that takes operands or makes results, and that was executed.
+    fn follow_work(&mut self, line: u64) -> Result<(), AllocError> {
         let run = self.profile.run();
-        self.holds.follow(&self.trail, run, before.next)?;
-        self.trail.follow(before.next, run)
+        let work = self.holds.release(&self.trail, run, line)?;
+        let mut elements = work.elements;
+        for (place, kind) in work.results.iter().enumerate() {
+            let depth = work.results.len().saturating_sub(place).saturating_sub(1);
+            if let (Some(block), Some(words)) = (run.block(depth), run.words(depth)) {
+                self.holds.put(block, words.len())?;
+                self.trail.put(block, *kind, line)?;
+                elements = elements.saturating_add(words.len() as u64);
+            }
+        }
+        self.counts.add(line, elements)
     }
 
-    /// Executes and follows the next instruction, which is this one; true if the job goes on.
+    /// Executes and follows the next instruction, which does this on its line; true if the job goes on.
     #[inline(always)]
-    fn step(&mut self, before: Before) -> Result<bool, AllocError> {
+    fn step(&mut self, coming: Coming, frame: Frame) -> Result<bool, AllocError> {
         let run = self.profile.run();
-        self.holds.look(&self.trail, run, before.next.op)?;
-        let words = self.counts.words_at(run);
+        self.holds.look(&self.trail, run, coming.effect)?;
+        let words = self.counts.words_at(&self.profile);
+        let executed = run.executed();
         let goes_on = self.profile.step()?;
-        if let Some(elements) = before.elements(self.run()) {
-            self.count(before, elements, words)?;
-            self.follow(before)?;
+        if self.run().executed() > executed {
+            if let Some(words) = words {
+                self.counts
+                    .tally
+                    .count_words(coming.line, frame.function, words)?;
+            }
+            self.follow(coming, frame.function)?;
         }
         if !goes_on {
-            self.last = Some(before);
+            let line = coming.line;
+            self.last = Some(LastPlace { line, frame });
         }
         Ok(goes_on)
     }
@@ -235,18 +278,29 @@ impl Survey {
         Ok(())
     }
 
+    /// Executes and follows the next instruction, and keeps the state before it if it is the last RET; true if the job
+    /// goes on.
+    #[inline(always)]
+    fn advance(&mut self, alloc: Global) -> Result<bool, AllocError> {
+        let coming = self.profile.coming();
+        let Some(frame) = self.run().frames().last() else {
+            return Ok(false);
+        };
+        if self.trail.ends_with(coming.effect) {
+            self.keep_last(alloc)?;
+        }
+        self.step(coming, frame)
+    }
+
     /// Executes and follows all instructions, and keeps the last state if the end is foreseen there: before the last
     /// RET, or when the budget is spent.
     fn go_to_end(&mut self, alloc: Global) -> Result<(), AllocError> {
         let budget = self.run().job().limits().budget;
-        for _ in 0..=budget {
-            let Some(before) = Before::of(self.run()) else {
-                break;
-            };
-            if self.trail.ends_with(before.next) || before.executed == budget {
+        for number in 0..=budget {
+            if number == budget {
                 self.keep_last(alloc)?;
             }
-            if !self.step(before)? {
+            if !self.advance(alloc)? {
                 break;
             }
         }
@@ -260,11 +314,11 @@ impl Survey {
             self.steps = self.run().executed();
         }
         let function = match self.last {
-            Some(last) => last.function,
+            Some(last) => last.frame.function,
             None => 0,
         };
         let (each, _) = self.profile.columns();
-        self.counts.end_all(function, each)?;
+        self.counts.end_all(function, each, self.profile.run())?;
         self.profile.collect()
     }
 

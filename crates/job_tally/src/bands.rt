@@ -13,8 +13,8 @@ struct Part {
 }
 
 /// How many instructions each function executed itself in each column, one column after the other. A column is of
-/// `each` instructions that follow one another. The last column has room for those up to the number `end`, and its
-/// parts begin at the place `begin`. Of each function there is the place of its last part, or 0.
+/// `each` instructions that follow one another, and the last has room for those up to the number `end`. It is open: it
+/// has a count for each function, and a list of those with a count. The others have parts.
 #[derive(Drop)]
 pub struct Bands {
     alloc: Global,
@@ -22,8 +22,8 @@ pub struct Bands {
     column: u64,
     end: u64,
     parts: Vec<Part>,
-    begin: usize,
-    places: Vec<usize>,
+    counts: Vec<u64>,
+    counted: Vec<usize>,
 }
 
 impl Bands {
@@ -40,58 +40,62 @@ impl Bands {
             column: 0,
             end: 1,
             parts: Vec::new(alloc),
-            begin: 0,
-            places: vec![in alloc; 0; functions]?,
+            counts: vec![in alloc; 0; functions]?,
+            counted: Vec::new(alloc),
         })
-    }
-
-    /// The place of the part of a function in the last column, if it has one.
-    #[inline(always)]
-    fn place(&self, function: usize) -> Option<usize> {
-        let place = *self.places.get(function)?;
-        match self.parts.get(place) {
-            Some(part) if part.function == function && place >= self.begin => Some(place),
-            Some(_) | None => None,
-        }
-    }
-
-    /// Adds the first part of a function in the last column.
-    #[inline(never)]
-    fn push(&mut self, function: usize, count: u64) -> Result<(), AllocError> {
-        if let Some(place) = self.places.get_mut(function) {
-            *place = self.parts.len();
-        }
-        self.parts.push(Part {
-            column: self.column,
-            function,
-            count,
-        })?;
-        Ok(())
     }
 
     /// Adds a number of instructions of a function to the last column.
     #[inline(always)]
-    fn add(&mut self, function: usize, count: u64) -> Result<(), AllocError> {
-        let Some(place) = self.place(function) else {
-            return self.push(function, count);
+    fn add(&mut self, function: usize, number: u64) -> Result<(), AllocError> {
+        let Some(count) = self.counts.get_mut(function) else {
+            return Ok(());
         };
-        if let Some(part) = self.parts.get_mut(place) {
-            part.count = part.count.wrapping_add(count);
+        let before = *count;
+        *count = before.wrapping_add(number);
+        if before == 0 {
+            return self.list(function, number);
         }
         Ok(())
     }
 
-    /// Adds a number of instructions of a function to a column, which is the last one or comes after it.
-    fn put(&mut self, column: u64, function: usize, count: u64) -> Result<(), AllocError> {
-        if column != self.column {
-            self.column = column;
-            self.begin = self.parts.len();
+    /// Lists a function that has this count in the last column now, unless it is 0.
+    #[inline(never)]
+    fn list(&mut self, function: usize, number: u64) -> Result<(), AllocError> {
+        if number > 0 {
+            self.counted.push(function)?;
         }
-        self.add(function, count)
+        Ok(())
+    }
+
+    /// Makes parts of the counts of the last column.
+    fn close(&mut self) -> Result<(), AllocError> {
+        for function in &self.counted {
+            if let Some(count) = self.counts.get_mut(*function) {
+                self.parts.push(Part {
+                    column: self.column,
+                    function: *function,
+                    count: *count,
+                })?;
+                *count = 0;
+            }
+        }
+        self.counted.clear();
+        Ok(())
+    }
+
+    /// Adds a number of instructions of a function to a column, which is the last one or comes after it.
+    fn put(&mut self, column: u64, function: usize, number: u64) -> Result<(), AllocError> {
+        if column != self.column {
+            self.close()?;
+            self.column = column;
+        }
+        self.add(function, number)
     }
 
     /// Counts instructions of a function that come after those that were counted: this many, up to the one of this
-    /// number, counted from 1. Columns are of `each` instructions now: of as many as before, or of more.
+    /// number, counted from 1. Columns are of `each` instructions now: of as many as before, or of more if the last one
+    /// had no room for them.
     ///
     /// # Errors
     ///
@@ -104,7 +108,7 @@ impl Bands {
         last: u64,
         each: u64,
     ) -> Result<(), AllocError> {
-        if each == self.each && last <= self.end {
+        if last <= self.end {
             return self.add(function, number);
         }
         self.spread(function, number, last, each)
@@ -145,17 +149,26 @@ impl Bands {
 
     /// Makes each two columns one.
     fn join(&mut self) -> Result<(), AllocError> {
+        self.close()?;
         let parts = mem::replace(&mut self.parts, Vec::new(self.alloc));
         self.column = 0;
-        self.begin = 0;
         for part in &parts {
             self.put(part.column / 2, part.function, part.count)?;
         }
         Ok(())
     }
 
-    /// Of each column the function that executed the most instructions in it: the first of them in the code, if some
-    /// executed as many.
+    /// Closes the last column, after which nothing is counted.
+    ///
+    /// # Errors
+    ///
+    /// As of [`Bands::count`].
+    pub fn end(&mut self) -> Result<(), AllocError> {
+        self.close()
+    }
+
+    /// Of each column but an open one the function that executed the most instructions in it: the first of them in the
+    /// code, if some executed as many.
     ///
     /// # Errors
     ///

@@ -1,9 +1,8 @@
 //! The functions of a run that run inside one another.
 
-use crate::tally::{Before, Count};
+use crate::tally::Count;
 use job_profile::Run;
 use std::alloc::{AllocError, Global};
-use vcode_base::Op;
 
 /// The most chains of functions. Those that would begin one more count in the rest of the chain that called them.
 const MOST_CHAINS: usize = 4_096;
@@ -25,7 +24,8 @@ pub struct Chain {
     pub count: Count,
 }
 
-/// The chains of a run, that of `MAIN` alone first, and the chain of each active call, the innermost last.
+/// The chains of a run, that of `MAIN` alone first, the chain of the innermost call, and those of the other active calls,
+/// that of `MAIN` first.
 ///
 /// Each chain has a row, which has for each function the chain in which it goes on if it is called there: for one that
 /// runs in the chain already the chain up to it, and for one that was called from the chain the chain with it. So a
@@ -36,14 +36,15 @@ pub struct Chain {
 pub struct Chains {
     alloc: Global,
     chains: Vec<Chain>,
-    calls: Vec<usize>,
+    innermost: usize,
+    callers: Vec<usize>,
     functions: usize,
     rows: Vec<Option<u16>>,
 }
 
 /// The function of the innermost call.
 #[inline(always)]
-pub(crate) fn innermost(run: &Run<Global>) -> usize {
+pub fn innermost(run: &Run<Global>) -> usize {
     match run.frames().last() {
         Some(frame) => frame.function,
         None => 0,
@@ -61,12 +62,13 @@ impl Chains {
         let mut chains = Chains {
             alloc,
             chains: Vec::new(alloc),
-            calls: Vec::new(alloc),
+            innermost: 0,
+            callers: Vec::new(alloc),
             functions,
             rows: vec![in alloc; None; functions.saturating_add(1)]?,
         };
         let main = chains.push_chain(0, innermost(run))?;
-        chains.enter(main)?;
+        chains.enter(main);
         Ok(chains)
     }
 
@@ -78,10 +80,7 @@ impl Chains {
     /// The place of the chain of the innermost call.
     #[inline(always)]
     pub fn place(&self) -> usize {
-        match self.calls.last() {
-            Some(place) => *place,
-            None => 0,
-        }
+        self.innermost
     }
 
     /// The index of a function in the row of the chain at a place.
@@ -167,43 +166,45 @@ impl Chains {
 
     /// Counts a call in the chain at a place, which is the innermost then.
     #[inline(always)]
-    fn enter(&mut self, place: usize) -> Result<(), AllocError> {
+    fn enter(&mut self, place: usize) {
         if let Some(chain) = self.chains.get_mut(place) {
             chain.calls = chain.calls.wrapping_add(1);
         }
-        self.calls.push(place)?;
-        Ok(())
+        self.innermost = place;
     }
 
-    /// Adds the call of a function.
-    #[inline(always)]
-    fn call(&mut self, function: usize) -> Result<(), AllocError> {
-        let place = self.inner(self.place(), function)?;
-        self.enter(place)
-    }
-
-    /// Counts what the innermost call has executed itself.
-    #[inline(always)]
-    pub fn count(&mut self, own: Count) {
-        let place = self.place();
-        if let Some(chain) = self.chains.get_mut(place) {
-            chain.count.join(own);
-        }
-    }
-
-    /// Counts a call that begins, or the end of one, at an instruction that a run has executed.
+    /// Counts a call of a function that begins.
     ///
     /// # Errors
     ///
     /// [`AllocError`] if memory was refused. The chains aren't those of the run then.
     #[inline(always)]
-    pub fn change(&mut self, before: Before, run: &Run<Global>) -> Result<(), AllocError> {
-        match before.next.op {
-            Op::Call => self.call(innermost(run)),
-            _ => {
-                self.calls.pop();
-                Ok(())
+    pub fn call(&mut self, function: usize) -> Result<(), AllocError> {
+        let outer = self.innermost;
+        let place = self.inner(outer, function)?;
+        self.callers.push(outer)?;
+        self.enter(place);
+        Ok(())
+    }
+
+    /// Counts the end of a call.
+    #[inline(always)]
+    pub fn leave(&mut self) {
+        if let Some(place) = self.callers.pop() {
+            self.innermost = place;
+        }
+    }
+
+    /// Counts what the innermost call has executed itself. Answers whether the chain tells its function: it doesn't if it
+    /// is a rest.
+    #[inline(always)]
+    pub fn count(&mut self, own: Count) -> bool {
+        match self.chains.get_mut(self.innermost) {
+            Some(chain) => {
+                chain.count.join(own);
+                chain.function < self.functions
             }
+            None => false,
         }
     }
 

@@ -1,52 +1,103 @@
 //! What a job executed by chains of functions, and by lines of the source in them.
 
-use crate::chains::Chains;
+use crate::chains::{Chains, innermost};
 use crate::source_counts::{Row, SourceCounts};
-use crate::tally::{Before, Stretch, changes_call};
+use crate::tally::Stretch;
 use code_places::Sources;
-use job_profile::Run;
+use job_history::Next;
+use job_looks::elements_of;
+use job_profile::{Effect, Run};
 use std::alloc::{AllocError, Global};
 use vcode_base::limits::MOST_BUDGET;
 
-/// Executes the next instruction, which is this one, and counts it; true if the job goes on.
+/// Counts what the innermost call of a run has executed itself.
+#[inline(always)]
+fn end_stretch(chains: &mut Chains, stretch: &mut Stretch, run: &Run<Global>) {
+    let own = stretch.end(stretch.all(run));
+    chains.count(own);
+}
+
+/// Counts an instruction with another effect on the calls, or with these elements, which a run has executed.
+#[inline(always)]
+fn count(
+    chains: &mut Chains,
+    stretch: &mut Stretch,
+    effect: Effect,
+    run: &Run<Global>,
+) -> Result<(), AllocError> {
+    match effect {
+        Effect::Calls => {
+            end_stretch(chains, stretch, run);
+            chains.call(innermost(run))
+        }
+        Effect::Returns => {
+            end_stretch(chains, stretch, run);
+            chains.leave();
+            Ok(())
+        }
+        Effect::Computes | Effect::Moves(_) | Effect::Nothing => Ok(()),
+    }
+}
+
+/// Executes the next instruction, which takes operands or makes results, and counts their elements; true if it was
+/// executed.
+fn compute(stretch: &mut Stretch, run: &mut Run<Global>) -> bool {
+    let Some(next) = Next::of(run) else {
+        return false;
+    };
+    let (read, executed) = (
+        elements_of(run, next.op.operand_kinds().len()),
+        run.executed(),
+    );
+    run.step();
+    if run.executed() == executed {
+        return false;
+    }
+    stretch.add(read.saturating_add(elements_of(run, next.op.result_kinds().len())));
+    true
+}
+
+/// Executes the next instruction, which does this, and counts it; true if it was executed.
 fn step(
     chains: &mut Chains,
     stretch: &mut Stretch,
-    before: Before,
+    effect: Effect,
     run: &mut Run<Global>,
 ) -> Result<bool, AllocError> {
-    let goes_on = run.step();
-    if let Some(elements) = before.elements(run) {
-        stretch.all.add(elements);
-        if changes_call(before.next.op) {
-            chains.count(stretch.end());
-            chains.change(before, run)?;
-        }
+    if let Effect::Computes = effect {
+        return Ok(compute(stretch, run));
     }
-    Ok(goes_on)
+    let executed = run.executed();
+    run.step();
+    if run.executed() == executed {
+        return Ok(false);
+    }
+    count(chains, stretch, effect, run)?;
+    Ok(true)
 }
 
 /// Runs a job to its end, and counts what it executes by chains.
 fn run_out(chains: &mut Chains, run: &mut Run<Global>) -> Result<(), AllocError> {
     let mut stretch = Stretch::NONE;
     for _ in 0..=MOST_BUDGET {
-        let Some(before) = Before::of(run) else {
+        let effect = run.coming().effect;
+        if !step(chains, &mut stretch, effect, run)? {
             break;
-        };
-        step(chains, &mut stretch, before, run)?;
+        }
     }
-    chains.count(stretch.end());
+    end_stretch(chains, &mut stretch, run);
     Ok(())
 }
 
-/// Counts the next instruction of a run by its line of the source, if it is of one. It is in the chain at a place.
+/// Counts an instruction of a line of the code by its line of the source, if it is of one. It is in the chain at a
+/// place.
 fn count_source(
     counts: &mut SourceCounts,
     sources: &Sources,
     chain: usize,
-    before: Before,
+    line: u64,
 ) -> Result<(), AllocError> {
-    let row = match sources.place(before.next.line) {
+    let row = match sources.place(line) {
         Some(line) => Some(Row { chain, line }),
         None => None,
     };
@@ -62,16 +113,13 @@ fn run_out_by_source(
 ) -> Result<(), AllocError> {
     let mut stretch = Stretch::NONE;
     for _ in 0..=MOST_BUDGET {
-        let Some(before) = Before::of(run) else {
+        let (coming, chain) = (run.coming(), chains.place());
+        if !step(chains, &mut stretch, coming.effect, run)? {
             break;
-        };
-        let (chain, executed) = (chains.place(), run.executed());
-        step(chains, &mut stretch, before, run)?;
-        if run.executed() > executed {
-            count_source(counts, sources, chain, before)?;
         }
+        count_source(counts, sources, chain, coming.line)?;
     }
-    chains.count(stretch.end());
+    end_stretch(chains, &mut stretch, run);
     counts.end()
 }
 

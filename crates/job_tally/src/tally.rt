@@ -1,11 +1,8 @@
 //! What the functions and the lines of a job did.
 
-use crate::chains::innermost;
-use job_history::Next;
-use job_looks::{elements_of, has_vectors};
+use crate::chains::{Chain, innermost};
 use job_profile::Run;
 use std::alloc::{AllocError, Global};
-use vcode_base::Op;
 
 /// What was executed.
 #[derive(Clone, Copy, Drop)]
@@ -16,26 +13,11 @@ pub struct Count {
     pub elements: u64,
 }
 
-/// What a run has executed, and what it had executed when the call began or went on that is the innermost now.
+/// The elements that a run has had, and what it had executed when the call began or went on that is the innermost now.
 #[derive(Clone, Copy, Drop)]
 pub struct Stretch {
-    /// What the run has executed.
-    pub all: Count,
+    elements: u64,
     since: Count,
-}
-
-/// The next instruction of a run, before it is executed.
-#[derive(Clone, Copy, Drop)]
-pub struct Before {
-    /// The instruction, and its line.
-    pub next: Next,
-    /// Its function, counted from 0 in the order of the code.
-    pub function: usize,
-    /// Its place in the function, counted from 0.
-    pub place: usize,
-    /// How many instructions were executed before it.
-    pub executed: u64,
-    read: u64,
 }
 
 /// What a function did.
@@ -77,13 +59,6 @@ impl Count {
         elements: 0,
     };
 
-    /// Adds an instruction whose operands and results have this many elements.
-    #[inline(always)]
-    pub fn add(&mut self, elements: u64) {
-        self.instructions = self.instructions.wrapping_add(1);
-        self.elements = self.elements.wrapping_add(elements);
-    }
-
     /// Adds another count.
     #[inline(always)]
     pub fn join(&mut self, other: Count) {
@@ -104,68 +79,32 @@ impl Count {
 impl Stretch {
     /// Nothing was executed.
     pub const NONE: Stretch = Stretch {
-        all: Count::NONE,
+        elements: 0,
         since: Count::NONE,
     };
 
-    /// What was executed in the innermost call since it began or went on. It is to count anew from now on.
+    /// Adds the elements of an instruction.
     #[inline(always)]
-    pub fn end(&mut self) -> Count {
-        let count = self.all.after(self.since);
-        self.since = self.all;
-        count
+    pub fn add(&mut self, elements: u64) {
+        self.elements = self.elements.wrapping_add(elements);
     }
-}
 
-/// Whether another call is the innermost after an instruction.
-#[inline(always)]
-pub fn changes_call(op: Op) -> bool {
-    matches!(op, Op::Call | Op::Return)
-}
-
-/// The elements of the entries at the top of the stack of a run that are the operands of an instruction.
-#[inline(always)]
-fn read_by(run: &Run<Global>, op: Op) -> u64 {
-    if has_vectors(op) {
-        elements_of(run, op.operand_kinds().len())
-    } else {
-        0
-    }
-}
-
-/// The elements of the entries at the top of the stack of a run that are the results of an instruction.
-#[inline(always)]
-fn made_by(run: &Run<Global>, op: Op) -> u64 {
-    if has_vectors(op) {
-        elements_of(run, op.result_kinds().len())
-    } else {
-        0
-    }
-}
-
-impl Before {
-    /// The next instruction of a run. `None` if the run is over.
+    /// What a run has executed.
     #[inline(always)]
-    pub fn of(run: &Run<Global>) -> Option<Before> {
-        let next = Next::of(run)?;
-        let frame = run.frames().last()?;
-        Some(Before {
-            next,
-            function: frame.function,
-            place: frame.place,
-            executed: run.executed(),
-            read: read_by(run, next.op),
-        })
-    }
-
-    /// The elements of its operands and results, after the run has made a step. `None` if it wasn't executed, since it
-    /// ended the job.
-    #[inline(always)]
-    pub fn elements(self, run: &Run<Global>) -> Option<u64> {
-        if run.executed() == self.executed {
-            return None;
+    pub fn all(&self, run: &Run<Global>) -> Count {
+        Count {
+            instructions: run.executed(),
+            elements: self.elements,
         }
-        Some(self.read.saturating_add(made_by(run, self.next.op)))
+    }
+
+    /// What was executed in the innermost call since it began or went on, if the run has executed this. It is to count
+    /// anew from now on.
+    #[inline(always)]
+    pub fn end(&mut self, all: Count) -> Count {
+        let count = all.after(self.since);
+        self.since = all;
+        count
     }
 }
 
@@ -241,7 +180,7 @@ impl Tally {
 
     /// Counts a call of a function that begins when the job has executed this.
     #[inline(always)]
-    fn enter(&mut self, function: usize, all: Count) {
+    pub fn enter(&mut self, function: usize, all: Count) {
         if let Some(tally) = self.functions.get_mut(function) {
             tally.enter(all);
         }
@@ -249,13 +188,14 @@ impl Tally {
 
     /// Counts the end of a call of a function when the job has executed this.
     #[inline(always)]
-    fn leave(&mut self, function: usize, all: Count) {
+    pub fn leave(&mut self, function: usize, all: Count) {
         if let Some(tally) = self.functions.get_mut(function) {
             tally.leave(all);
         }
     }
 
     /// Makes room for the line of this number.
+    #[inline(always)]
     fn reach(&mut self, line: usize) -> Result<(), AllocError> {
         for _ in self.lines.len()..=line {
             self.lines.push(LineTally::new())?;
@@ -263,17 +203,17 @@ impl Tally {
         Ok(())
     }
 
-    /// Counts the elements of an instruction that was executed.
+    /// Counts the elements of an instruction of a line that was executed.
     ///
     /// # Errors
     ///
     /// [`AllocError`] if memory was refused. The elements aren't counted then.
     #[inline(always)]
-    pub fn count(&mut self, before: Before, elements: u64) -> Result<(), AllocError> {
+    pub fn count(&mut self, line: u64, elements: u64) -> Result<(), AllocError> {
         if elements == 0 {
             return Ok(());
         }
-        let line = before.next.line as usize;
+        let line = line as usize;
         self.reach(line)?;
         if let Some(tally) = self.lines.get_mut(line) {
             tally.elements = tally.elements.saturating_add(elements);
@@ -281,18 +221,24 @@ impl Tally {
         Ok(())
     }
 
-    /// Counts the words that were held and needed at an instruction that was executed.
+    /// Counts the words that were held and needed at an instruction of a line and a function that was executed.
     ///
     /// # Errors
     ///
     /// [`AllocError`] if memory was refused. The words aren't counted then.
-    pub fn count_words(&mut self, before: Before, words: usize) -> Result<(), AllocError> {
-        let line = before.next.line as usize;
+    #[inline(always)]
+    pub fn count_words(
+        &mut self,
+        line: u64,
+        function: usize,
+        words: usize,
+    ) -> Result<(), AllocError> {
+        let line = line as usize;
         self.reach(line)?;
         if let Some(tally) = self.lines.get_mut(line) {
             tally.most = tally.most.max(words);
         }
-        if let Some(tally) = self.functions.get_mut(before.function) {
+        if let Some(tally) = self.functions.get_mut(function) {
             tally.most = tally.most.max(words);
         }
         Ok(())
@@ -306,12 +252,10 @@ impl Tally {
         }
     }
 
-    /// Counts a call that begins, or the end of one, at an instruction after which the job has executed this.
-    #[inline(always)]
-    pub fn change(&mut self, before: Before, all: Count, run: &Run<Global>) {
-        match before.next.op {
-            Op::Call => self.enter(innermost(run), all),
-            _ => self.leave(before.function, all),
+    /// Counts what functions have executed themselves in these chains, but for those that are rests.
+    pub fn count_chains(&mut self, chains: &[Chain]) {
+        for chain in chains {
+            self.count_own(chain.function, chain.count);
         }
     }
 

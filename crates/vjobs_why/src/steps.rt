@@ -2,7 +2,9 @@
 
 use crate::output::{print_and_clear, print_text};
 use code_places::Spans;
-use job_looks::{Batch, Step, Text, push_made, push_more, push_step, push_step_head, step_of};
+use job_looks::{
+    Batch, Passed, Step, Text, passed, push_made, push_more, push_step, push_step_head,
+};
 use job_profile::{Run, Uses};
 use job_steps::Job;
 use refusal_notes::Lines;
@@ -34,8 +36,8 @@ fn count_chosen(uses: &mut Uses<Global>, selection: Selection) -> u64 {
     let before = selection.from.saturating_sub(1);
     pass(uses, before);
     for _ in before..selection.to {
-        match step_of(uses) {
-            Some(step) => picker.takes(step.line),
+        match passed(uses) {
+            Some(passed) => picker.takes(passed.line),
             None => break,
         };
     }
@@ -54,12 +56,13 @@ fn push_listed(
     alloc: Global,
     listing: Listing<'_>,
     run: &Run<Global>,
-    step: Step,
+    passed: Passed,
     picker: Picker,
 ) {
     if !picker.is_listed(listing.total) {
         return push_more(text, picker.left_out(listing.total).unwrap_or(0));
     }
+    let step = Step::of(run, passed);
     push_step(text, alloc, listing.lines, listing.spans, step);
     if picker.shows_values() {
         push_made(text, run, step);
@@ -105,11 +108,11 @@ fn print_each(
     let before = selection.from.saturating_sub(1);
     pass(uses, before);
     for _ in before..selection.to {
-        let Some(step) = step_of(uses) else {
+        let Some(passed) = passed(uses) else {
             break;
         };
-        if picker.takes(step.line) {
-            push_listed(&mut text, rt.alloc(), listing, uses.run(), step, picker);
+        if picker.takes(passed.line) {
+            push_listed(&mut text, rt.alloc(), listing, uses.run(), passed, picker);
             print_and_clear(rt, &mut text)?;
         }
         if picker.is_done() {

@@ -406,8 +406,8 @@ fn last_columns(
     };
     let program = survey.profile().run().job().verified().program();
     let spans = Spans::of(alloc, lines, program)?;
-    match spans.at(last.function, last.place) {
-        Some(word) => Ok(lines.columns(last.next.line, spans.first, word)),
+    match spans.at(last.frame.function, last.frame.place) {
+        Some(word) => Ok(lines.columns(last.line, spans.first, word)),
         None => Ok(None),
     }
 }

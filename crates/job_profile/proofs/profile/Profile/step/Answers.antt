@@ -2,8 +2,12 @@
 use Rattle.std.proofs.Common.{◌<◌, ◌^◌, cond, sym, ◌∙◌, ap, arith, rules}
 use Rattle.std.specs.Prelude.{nat_lt}
 use Rattle.job_steps.specs.Runs.{executed_count_in}
-use Rattle.job_profile.proofs.Counted.{counts, fits, of_new, stays}
+use Rattle.job_profile.specs.declared.coming.Coming.{Coming}
+use Rattle.job_profile.proofs.Counted.{counts, fits, line_coming, of_new, stays}
 use Rattle.job_profile.proofs.profile.Profile.step.Goals as goal
+
+pub demand_by-most-requires : goal.demand_by-most-requires
+demand_by-most-requires g c = rw c.run-run.ensures (ap (λ (m : Coming). m.effect) c.self.invariant.coming_is)
 
 pub invariant_of-self-then-now-executed : goal.invariant_of-self-then-now-executed
 invariant_of-self-then-now-executed g c =
@@ -12,7 +16,7 @@ invariant_of-self-then-now-executed g c =
     let after = rw c.run-run-2.ensures at c.executed-now.ensures in
     of_new come
     (stays c.self.invariant (c.steps_move.ensures _ _ _ c.self.invariant.on_run come.progress_is) c.grow.ensures.same
-    (sym after ∙ c.if-now-executed.true ∙ before))
+    (sym after ∙ c.if-now-executed.true ∙ before) (rw c.run-run-2.ensures at c.coming-self-inside.ensures))
 
 pub count-requires-clause-fits : goal.count-requires-clause-fits
 count-requires-clause-fits g c =
@@ -34,10 +38,12 @@ invariant_of-self-2 g c =
     let after = rw shown at c.executed-now.ensures in
     let peak = rw seen at c.peak-peak.ensures in
     let next = rw shown at c.peak.ensures in
-    let asked = rw seen at c.demand-most.ensures.executed in
+    let asked = rw seen at c.demand_by-most.ensures.executed in
     of_new come
     (counts c.self.invariant (c.steps_move.ensures _ _ _ c.self.invariant.on_run come.progress_is) c.grow.ensures.same
     (λ e. c.if-now-executed.false (after ∙ e ∙ sym before)) c.add.ensures.strip c.add.ensures.fine
-    c.add.ensures.highest c.in_ok-grow.ensures.long (rw seen at c.next_place-line.ensures) c.count.ensures
-    (c.first_reached-self-inside.ensures ∙ (λ i. cond (nat_lt (peak i) (next i)) (after i) c.self.inside.peak_after))
-    (λ more. asked (sym (ap executed_count_in come.progress_is) ∙ more)) (rw shown at c.held-least.ensures))
+    c.add.ensures.highest c.in_ok-grow.ensures.long
+    (ap (λ (m : Coming). m.line) c.self.invariant.coming_is ∙ line_coming _) c.count.ensures
+    (c.note_peak.ensures ∙ (λ i. cond (nat_lt (peak i) (next i)) (after i) c.self.inside.peak_after))
+    (λ more. asked (sym (ap executed_count_in come.progress_is) ∙ more)) (rw shown at c.held-least.ensures)
+    (rw shown at c.coming-self-inside.ensures))

@@ -1,0 +1,72 @@
+//! The next instruction of a run, as far as each step has to know it.
+
+ghost use Rattle.std.specs.Prelude.{◌≡◌};
+ghost use Rattle.job_profile.specs.Comings.{coming_by, does_move, effect_of};
+
+use vcode_base::{Instr, Instruction, StackMove};
+use vcode_reader::{CodeItem, CodeLine};
+
+/// What an instruction does.
+#[derive(Clone, Copy)]
+pub enum Effect {
+    /// It takes operands or makes results.
+    Computes,
+    /// It moves entries of the stack.
+    Moves(StackMove),
+    /// It calls a function.
+    Calls,
+    /// It ends a call.
+    Returns,
+    /// There is no instruction, since the run is over.
+    Nothing,
+}
+
+/// What the next instruction of a run does, and the number of its line, which is 0 if there is no instruction.
+#[derive(Clone, Copy)]
+pub struct Coming {
+    /// What it does.
+    pub effect: Effect,
+    /// Its line.
+    pub line: u64,
+}
+
+/// What an instruction does.
+#[inline(always)]
+fn effect_of(item: &CodeItem<Instruction<'_>>) -> Effect
+    ensures { result ≡ effect_of item.now }
+{
+    match item {
+        CodeItem::Do(Instr::Move(motion, ..)) => Effect::Moves(*motion),
+        CodeItem::Do(Instr::Call(_)) => Effect::Calls,
+        CodeItem::Do(Instr::Return) => Effect::Returns,
+        CodeItem::Do(_) | CodeItem::If | CodeItem::Else | CodeItem::Endif => Effect::Computes,
+    }
+}
+
+/// What the instruction of a line does, and the number of the line, if there is one.
+#[inline(always)]
+pub(crate) fn coming_by(line: Option<CodeLine<'_>>) -> Coming
+    ensures { result ≡ coming_by line.entry }
+{
+    match line {
+        Some(line) => Coming {
+            effect: effect_of(&line.item),
+            line: line.number,
+        },
+        None => Coming {
+            effect: Effect::Nothing,
+            line: 0,
+        },
+    }
+}
+
+/// Whether an instruction moves entries or calls: it takes no operand and has no result.
+#[inline(always)]
+pub(crate) fn does_move(effect: Effect) -> bool
+    ensures { result ≡ does_move effect }
+{
+    match effect {
+        Effect::Moves(_) | Effect::Calls | Effect::Returns => true,
+        Effect::Computes | Effect::Nothing => false,
+    }
+}
