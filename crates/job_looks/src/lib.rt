@@ -48,7 +48,7 @@ pub use stack::{
     MOST_ENTRIES, name_at, push_calls, push_line, push_stack, push_value, push_values,
 };
 pub use state::{JobState, Traced, place_of};
-pub use step::{Passed, Step, passed, push_made, push_step, push_step_head};
+pub use step::{Passed, Step, pass_one, push_made, push_step, push_step_head};
 pub use stops::{Sought, State, by_bytes, count_to, place_sought, push_none, state_sought};
 pub use text::Text;
 pub use values::{Part, ValueRange, push_list, value_range};

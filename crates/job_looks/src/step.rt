@@ -66,7 +66,7 @@ impl Mark {
 /// Executes the next instruction. Answers where it is. `None` if it isn't executed, since it ends the job, or if there is
 /// none.
 #[inline(always)]
-pub fn passed(uses: &mut Uses<Global>) -> Option<Passed> {
+pub fn pass_one(uses: &mut Uses<Global>) -> Option<Passed> {
     let run = uses.run();
     let (line, executed, frame) = (run.coming().line, run.executed(), run.frames().last()?);
     uses.step();

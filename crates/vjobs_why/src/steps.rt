@@ -3,7 +3,7 @@
 use crate::output::{print_and_clear, print_text};
 use code_places::Spans;
 use job_looks::{
-    Batch, Passed, Step, Text, passed, push_made, push_more, push_step, push_step_head,
+    Batch, Passed, Step, Text, pass_one, push_made, push_more, push_step, push_step_head,
 };
 use job_profile::{Run, Uses};
 use job_steps::Job;
@@ -36,7 +36,7 @@ fn count_chosen(uses: &mut Uses<Global>, selection: Selection) -> u64 {
     let before = selection.from.saturating_sub(1);
     pass(uses, before);
     for _ in before..selection.to {
-        match passed(uses) {
+        match pass_one(uses) {
             Some(passed) => picker.takes(passed.line),
             None => break,
         };
@@ -108,7 +108,7 @@ fn print_each(
     let before = selection.from.saturating_sub(1);
     pass(uses, before);
     for _ in before..selection.to {
-        let Some(passed) = passed(uses) else {
+        let Some(passed) = pass_one(uses) else {
             break;
         };
         if picker.takes(passed.line) {
