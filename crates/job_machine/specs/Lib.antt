@@ -4,5 +4,4 @@ pub mod Machines
 pub mod Replays
 pub mod SlotOf
 pub mod Sound
-pub mod TurnLaws
 pub mod Workbench

@@ -18,7 +18,6 @@ ghost use Rattle.job_machine.specs.Machines.{outcome_in, HasReturnedIn, HasNoSte
 ghost use Rattle.job_machine.specs.Machines.{HasRunIn, StepsIn, after_step, asked_in, is_running};
 ghost use Rattle.job_machine.specs.Lanes.{CanAdopt, after_adoption};
 ghost use Rattle.job_machine.specs.SlotOf.{IsSlotIn};
-ghost use Rattle.job_machine.specs.TurnLaws.{TurnLaws};
 
 use crate::lane::{EndedJob, run_slot};
 use crate::setting::{
@@ -28,10 +27,7 @@ use job_memory::JobMemory;
 use job_memory::laws::changes_join;
 use job_slots::laws::{new_is_shown, others_are_shown, recalled_is_shown, shown_is_alone};
 use job_slots::{Begun, Compare, Finished, Slot, Status, Stepped, Turn};
-use job_steps::laws::{
-    admissions_pass_once, admitted_have_room, closed_change_nothing, events_change_their_job,
-    leads_join, missing_are_closed, others_pass_nobody, passes_are_few,
-};
+use job_steps::laws::{admissions_pass_once, admitted_have_room, leads_join, passes_are_few};
 use job_steps::{Desk, Filled, Job};
 use std::alloc::{AllocError, Allocator};
 use std::marker::Model;
@@ -142,7 +138,7 @@ impl<A: Allocator + Clone> Machine<A> {
         ensures unchanged { OnErr result (self.new ≡ self.old) }
         ensures returned { OnErr result (HasReturnedIn self.old job) }
     {
-        turn_laws();
+        others_are_shown();
         let Some(place) = self.place(job) else {
             return Ok(false);
         };
@@ -185,7 +181,7 @@ impl<A: Allocator> Machine<A> {
         ensures answer { result ≡ admission_in self.old }
         ensures state { self.new ≡ machine_after Admit self.old }
     {
-        turn_laws();
+        others_are_shown();
         admission_laws();
         let next = next_admission(
             &self.blocks,
@@ -216,7 +212,7 @@ impl<A: Allocator> Machine<A> {
         ensures answer { BeginsIn job desk (of_job job self.old.tasks) (of_job job self.old.standings) result }
         ensures state { self.new ≡ after_begun result self.old (machine_after (Begin job) self.old) }
     {
-        turn_laws();
+        others_are_shown();
         let Some(place) = self.place(job) else {
             return Begun::NotReady(desk);
         };
@@ -260,7 +256,7 @@ impl<A: Allocator> Machine<A> {
         ensures desk { result.1 ≡ filled.words }
         ensures state { self.new ≡ after_finished result.0 self.old (machine_after (Finish filled.job) self.old) }
     {
-        turn_laws();
+        others_are_shown();
         shown_is_alone();
         let _used = self.blocks.used();
         let job = filled.job();
@@ -293,7 +289,7 @@ impl<A: Allocator> Machine<A> {
         ensures state { self.new ≡ after_stepped result self.old (after_step job self.old) }
         ensures desk { desk.new ≡ desk.old }
     {
-        turn_laws();
+        others_are_shown();
         shown_is_alone();
         let _used = self.blocks.used();
         let Some(place) = self.place(job) else {
@@ -315,7 +311,7 @@ impl<A: Allocator> Machine<A> {
         ensures over { is_running (of_job job self.new.standings) ≡ false }
         ensures desk { desk.new ≡ desk.old }
     {
-        turn_laws();
+        others_are_shown();
         shown_is_alone();
         let Some(place) = self.place(job) else {
             return;
@@ -376,7 +372,8 @@ impl<A: Allocator> Machine<A> {
         ensures answer { result ≡ is_flying (of_job job self.old.standings) }
         ensures state { self.new ≡ machine_after (Recall job) self.old }
     {
-        turn_laws();
+        others_are_shown();
+        changes_join();
         recalled_is_shown();
         let Some(place) = self.place(job) else {
             return false;
@@ -528,18 +525,6 @@ fn job_at<A: Allocator>(jobs: &Arc<Vec<Job<A>, A>, A>, place: usize) -> &Job<A>
     ensures { result.now ≡ get_or (arc_value jobs.now).items place result.now }
 {
     &jobs.as_slice()[place]
-}
-
-/// The laws by which a turn of one job leaves a machine sound, and standing as an event leaves it.
-fn turn_laws()
-    ensures { TurnLaws }
-{
-    others_are_shown();
-    changes_join();
-    events_change_their_job();
-    others_pass_nobody();
-    missing_are_closed();
-    closed_change_nothing();
 }
 
 /// The laws of who is admitted, and of who is passed by.

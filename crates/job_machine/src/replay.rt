@@ -9,7 +9,6 @@ ghost use Rattle.job_machine.specs.Replays.{IsRefusable, IsRefusedAt, StopsWith}
 use crate::machine::Machine;
 use crate::workbench::{Workbench, Workplace};
 use job_steps::Event;
-use job_steps::laws::others_stay;
 use std::alloc::{AllocError, Allocator};
 
 /// What a replay was refused memory for.
@@ -40,7 +39,6 @@ impl<A: Allocator + Clone> Machine<A> {
         ensures fit { WorkbenchFits self.new workbench.new }
         ensures leads { Leads self.old self.new }
     {
-        others_stay();
         match event {
             Event::Admit => {
                 self.admit();
@@ -115,7 +113,6 @@ impl<A: Allocator> Machine<A> {
         ensures state { self.new ≡ machine_after (Begin job) self.old }
         ensures fit { WorkbenchFits self.new workbench.new }
     {
-        others_stay();
         let Some(desk) = workbench.take_desk(job) else {
             return;
         };
@@ -130,7 +127,6 @@ impl<A: Allocator> Machine<A> {
         ensures state { self.new ≡ machine_after (Finish job) self.old }
         ensures fit { WorkbenchFits self.new workbench.new }
     {
-        others_stay();
         let Some(filled) = workbench.take_filled(job) else {
             return;
         };
@@ -145,7 +141,6 @@ impl<A: Allocator> Machine<A> {
         ensures state { self.new ≡ machine_after (Recall job) self.old }
         ensures fit { WorkbenchFits self.new workbench.new }
     {
-        others_stay();
         self.recall(job);
         if let Some(filled) = workbench.take_filled(job) {
             workbench.exchange(job, Workplace::Free(filled.into_desk()));

@@ -90,7 +90,7 @@ invariant_of-self g c =
     let at = goal.at.invariant_of-self g c in
     let has = turn g at.After-job_at in
     admitted_sound has c.admission_laws.ensures.passed _ (late g at.After-job_at) c.admission_laws.ensures.few
-    c.self.invariant (turn_sound has.turn c.turn_laws.ensures.others c.self.invariant c.admit-granted.ensures.others
+    c.self.invariant (turn_sound has.turn c.others_are_shown.ensures c.self.invariant c.admit-granted.ensures.others
     c.admit-granted.ensures.shows)
 
 pub returns-clause-answer : goal.returns-clause-answer
