@@ -67,10 +67,10 @@ pub of_new : {task : Task} {p : Progress} {new : RunState} {times : List ℕ} {a
 of_new come h = grind arith
 
 module _ {task : Task} {p q : Progress} {was grown : List ℕ} {after : ℕ} {columns : List Column} {each room : ℕ}
-    {coming next : Coming} (h : IsProfile task p was after columns each room coming) (moved : HasMoved task p q)
+    {coming : Coming} (h : IsProfile task p was after columns each room coming) (moved : HasMoved task p q)
     (alike : CountAlike was grown) where
   -- no instruction was executed
-  pub stays : executed_count_in q ≡ executed_count_in p → next ≡ coming_in q →
+  pub stays : {next : Coming} → executed_count_in q ≡ executed_count_in p → next ≡ coming_in q →
       IsProfile task q grown after columns each room next
   stays same is = grind arith
 
@@ -92,7 +92,7 @@ module _ {task : Task} {p q : Progress} {was grown : List ℕ} {after : ℕ} {co
 
   -- it is counted, and goes into a column
   pub counts : executed_count_in q ≢ executed_count_in p → {column : Column} {more : List Column}
-      {each' room' later : ℕ} {times : List ℕ} →
+      {each' room' later : ℕ} {times : List ℕ} {next : Coming} →
       ((of : ℕ → Column) (n : ℕ) → IsStrip of n columns each room → column ≡ of n →
       IsStrip of (n + 1) more each' room') →
       ((of : ℕ → Column) (n : ℕ) → IsStrip of n columns each room → AreFine (n + 1) each') →
