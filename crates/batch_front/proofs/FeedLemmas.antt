@@ -1,27 +1,16 @@
 -- What was read of a reader and fed.
-use Rattle.std.proofs.Common.{◌≡◌, ◌⊎◌, ℕ, ◌+◌, ◌-◌, ◌≤◌, Bool, true, false, List, ◌++◌, length, take}
+use Rattle.std.proofs.Common.{◌≡◌, ℕ, ◌+◌, ◌-◌, ◌≤◌, List, ◌++◌, length, take}
 use Rattle.std.proofs.Common.{arith}
-use Rattle.std.specs.Prelude.{Result, Ok, Err, OnErr, IsErrOf}
-use Rattle.batch_front.specs.declared.fault.FrontFault.TheVariants.{Read, Write, Memory, Mixed}
-use Rattle.batch_front.specs.declared.fault.FrontFault.{FrontFault}
 use Rattle.std.specs.declared.option.Option.{Option}
 use Rattle.std.specs.Io.KnownBytes.{Consumes, Keeps, IsAtEnd}
 use Rattle.std.proofs.lemmas.Grind.{common_steps}
 use Rattle.std.proofs.lemmas.List.{length-append, length-take-le}
 use Rattle.vcode_base.specs.declared.limits.TheConstants.{MOST_BATCH_BYTES}
 use Rattle.batch_reader.specs.Feeds.{FeedState, HasCome}
-use Rattle.batch_reader.specs.declared.entry.Batch.{Batch}
-use Rattle.batch_reader.specs.Fates.{JobEntry, IsBatch}
-use Rattle.batch_front.specs.declared.status.Status.{Status}
-use Rattle.batch_front.specs.Inputs.{AreFirstBytes, IsBatchIn, ReadsFirstBytes, ReadsNoFurther}
-use Rattle.batch_front.specs.Reports.{report_of, status_of}
+use Rattle.batch_front.specs.Inputs.{ReadsFirstBytes, ReadsNoFurther}
+use Rattle.batch_front.specs.Reads.{AreFirstBytes}
 use Rattle.batch_front.proofs.Bytes.{front_at_stop, front_when_full, reads_more}
 use Rattle.batch_front.proofs.Bytes.{rest_at_stop, rest_is_some, rest_when_full, some_rest}
-
--- the fault of a result, and another one if it has none
-abbrev pub fault_in : {T : Type 0} → FrontFault → Result T FrontFault → FrontFault
-fault_in other (Ok v) = other
-fault_in other (Err fault) = fault
 
 -- some bytes were read and fed, and this number is left of those that may be read
 pub record HasFed (old new : Option (List ℕ)) (feed : FeedState) (left : ℕ) : Type 0 where
@@ -56,11 +45,6 @@ read_no_further a b c old left n buffer h p within l =
     some_rest (MOST_BATCH_BYTES + 1) a c (h.bytes ++ piece) (reads_more a b c h.bytes piece h.consumed p)
     (omega (arith, h.room, length-append h.bytes piece, length-take-le n buffer within))
 
--- a read that gave nothing, and may be tried again
-pub fed_none : (a b c : Option (List ℕ)) (feed : FeedState) (left : ℕ) → HasFed a b feed left → Keeps b c
-    → HasFed a c feed left
-fed_none a b c feed left h k = grind arith
-
 -- ---- what is known of the input in the end
 
 -- the bytes that were fed are the first of the input, and no more was read
@@ -93,35 +77,9 @@ fed_to_limit a b feed left h none =
       no_further = rest_is_some _ a b to_the_end;
     }
 
--- wherever the reading stopped
-pub fed_no_further : (a b : Option (List ℕ)) (feed : FeedState) (left : ℕ) → HasFed a b feed left → ReadsNoFurther a b
-fed_no_further a b feed left h = some_rest (MOST_BATCH_BYTES + 1) a b h.bytes h.consumed (omega (arith, h.room))
-
--- ---- the batch that was read
-
--- what is known of a text and a status that are those of the batch
-pub record IsTold (region : ℕ) (old : Option (List ℕ)) (text : List ℕ) (is : Status) : Type 0 where
-  pub batch : Batch (List JobEntry)
-  pub comes : IsBatchIn region old batch
-  pub report : text ≡ report_of batch
-  pub status : is ≡ status_of batch
-
-pub batch_in : (region : ℕ) (old : Option (List ℕ)) (feed : FeedState) (batch : Batch (List JobEntry))
-    → (bytes : List ℕ) × HasCome feed bytes × AreFirstBytes old bytes
-    → ((bytes : List ℕ) → HasCome feed bytes → IsBatch region bytes batch) → IsBatchIn region old batch
-batch_in region old feed batch h f = record { bytes = h.0; first = h.2; comes = f h.0 h.1 }
-
--- ---- a fault of the writer
-
-abbrev pub is_write : FrontFault → Bool
-is_write Write = true
-is_write fault = false
-
-abbrev is_no_other : {T : Type 0} → Result T FrontFault → Bool
-is_no_other (Ok v) = true
-is_no_other (Err fault) = is_write fault
-
--- a fault that is none but of the writer is no other
-pub only_at_write : {T P : Type 0} (r : Result T FrontFault) → OnErr r (IsErrOf r Write) →
-    IsErrOf r Read ⊎ IsErrOf r Memory ⊎ IsErrOf r Mixed → P
-only_at_write r alone h = grind arith
+-- a read that gave nothing
+pub fed_no_further : (a b c : Option (List ℕ)) (feed : FeedState) (left : ℕ) → HasFed a b feed left → Keeps b c
+    → ReadsNoFurther a c
+fed_no_further a b c feed left h k =
+    let kept : HasFed a c feed left = grind arith in
+    some_rest (MOST_BATCH_BYTES + 1) a c kept.bytes kept.consumed (omega (arith, kept.room))

@@ -43,7 +43,7 @@ executed_told m job h = grind (arith, told_out, executed_at)
 pub peak_told : (m : MachineState) (job : ℕ) → HasRunOut m → told peak_at job m ≡ option_map peak (of_job job m.tasks)
 peak_told m job h = grind (arith, told_out, peak_at)
 
--- what a machine that has run out tells of a job
+-- what a machine that has run out reports of a job
 pub ruleset told_of_a_job = (outcome_told, executed_told, peak_told)
 
 -- the lines on a job that there is

@@ -1,7 +1,6 @@
 -- The turns of jobs, one after another.
-use Rattle.std.proofs.Common.{◌≡◌, ℕ, ◌+◌, ◌<◌, List, [], ◌∷◌, ◌++◌, length, take, get_or, Option}
+use Rattle.std.proofs.Common.{◌≡◌, ℕ, ◌+◌, ◌<◌, List, [], ◌∷◌, ◌++◌, length, take, get_or}
 use Rattle.std.proofs.Common.{refl, sym, ap, subst, ◌∙◌, arith}
-use Rattle.std.specs.Prelude.{IfSome}
 use Rattle.std.proofs.lemmas.List.{take_more}
 use Rattle.vcode_base.specs.declared.rule.Rule.{Rule}
 use Rattle.job_steps.specs.declared.event.Event.TheVariants as event
@@ -10,7 +9,7 @@ use Rattle.job_steps.specs.Standings.{Waiting, first_standings, first_queue}
 use Rattle.job_steps.specs.States.{Task}
 use Rattle.job_machine.specs.declared.workbench.Workplace.{Workplace}
 use Rattle.job_machine.specs.Workbench.{WorkbenchFits}
-use Rattle.job_machine.specs.Machines.{MachineState, HasNoStep, Leads, machine_after, recalled, with_queue}
+use Rattle.job_machine.specs.Machines.{MachineState, HasNoStep, machine_after, recalled, with_queue}
 use Rattle.batch_front.specs.declared.schedule.Item.{Item}
 use Rattle.batch_front.specs.ReportedJobs.{ReportedJob}
 use Rattle.batch_front.specs.Turns.{after_admissions, after_item, after_items}
@@ -42,11 +41,6 @@ pub workbench_fits : {A : Type 0} (m : MachineState) (workbench : List (Workplac
 workbench_fits m workbench wait h =
     subst (λ standings. WorkbenchFits (with_queue m (record { standings = standings; passes = m.passes })) workbench)
     (no_step_first m wait) h
-
--- what leads from a machine leads from the same one, if it is known
-pub led_from : {V : Type 0} (o : Option V) (from_v : V → MachineState) (mid new : MachineState)
-    → IfSome o (λ v. mid ≡ from_v v) → Leads mid new → IfSome o (λ v. Leads (from_v v) new)
-led_from o from_v mid new is leads = grind arith
 
 -- ---- one more
 

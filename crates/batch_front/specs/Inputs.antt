@@ -1,8 +1,6 @@
--- What is read of an input, what is left of it, and the batch that it is.
+-- What is read of an input, and what is left of it.
 use Rattle.std.specs.Prelude.{◌≡◌, ◌≤◌, ◌+◌, ℕ, List, take, drop, Option, Some, IfSome}
 use Rattle.vcode_base.specs.declared.limits.TheConstants.{MOST_BATCH_BYTES}
-use Rattle.batch_reader.specs.declared.entry.Batch.{Batch}
-use Rattle.batch_reader.specs.Fates.{JobEntry, IsBatch}
 
 -- the first bytes of an input, at most one more than a batch may have
 abbrev pub first_bytes : List ℕ → List ℕ
@@ -15,13 +13,3 @@ ReadsFirstBytes old new = IfSome old (λ input. new ≡ Some (drop (MOST_BATCH_B
 -- a reader came at most so far
 abbrev pub ReadsNoFurther : Option (List ℕ) → Option (List ℕ) → Type 0
 ReadsNoFurther old new = IfSome old (λ input. (n : ℕ) × (n ≤ MOST_BATCH_BYTES + 1) × (new ≡ Some (drop n input)))
-
--- the first bytes of an input, if they are known
-abbrev pub AreFirstBytes : Option (List ℕ) → List ℕ → Type 0
-AreFirstBytes old bytes = IfSome old (λ input. bytes ≡ first_bytes input)
-
--- the answer to some bytes, which are the first of an input if that is known
-pub record IsBatchIn (region : ℕ) (old : Option (List ℕ)) (batch : Batch (List JobEntry)) : Type 0 where
-  pub bytes : List ℕ
-  pub first : AreFirstBytes old bytes
-  pub comes : IsBatch region bytes batch

@@ -4,6 +4,7 @@ pub mod Inputs
 pub mod Laws
 pub mod LoadedBatches
 pub mod Pages
+pub mod Reads
 pub mod ReportedJobs
 pub mod Reports
 pub mod Runs

@@ -1,13 +1,16 @@
 -- A batch that was read: its jobs on a machine, and what is reported of it once they have run out.
-use Rattle.std.specs.Prelude.{◌≡◌, ◌≤◌, ℕ, List, codes, length}
+use Rattle.std.specs.Prelude.{◌≡◌, ◌≤◌, ℕ, List, Option, codes, length}
 use Rattle.job_machine.specs.Machines.{MachineState}
 use Rattle.job_steps.specs.Standings.{first_standings}
+use Rattle.batch_reader.specs.declared.entry.Batch.{Batch}
 use Rattle.batch_reader.specs.BatchTexts.{batch_fault_text}
+use Rattle.batch_reader.specs.Fates.{JobEntry}
 use Rattle.batch_front.specs.declared.load.Loaded.{Loaded}
 use Rattle.batch_front.specs.declared.load.Loaded.TheVariants.{Refused, Jobs}
 use Rattle.batch_front.specs.declared.status.Status.{Status}
 use Rattle.batch_front.specs.declared.status.Status.TheVariants.{BatchRefused}
-use Rattle.batch_front.specs.Reports.{fault_text}
+use Rattle.batch_front.specs.Reads.{IsBatchIn}
+use Rattle.batch_front.specs.Reports.{fault_text, report_of, status_of}
 use Rattle.batch_front.specs.ReportedJobs.{AreAmong, HasRunOut, ReportedJob, report_text, reported_status}
 
 abbrev pub LoadedBatch : Type 0
@@ -22,6 +25,13 @@ loaded_text (Jobs machine reported) = report_text machine.tasks reported
 abbrev pub loaded_status : LoadedBatch → Status
 loaded_status (Refused line fault) = BatchRefused
 loaded_status (Jobs machine reported) = reported_status machine.tasks reported
+
+-- a loaded batch is the one that an input is: it has that batch's report and status
+pub record IsLoaded (region : ℕ) (input : Option (List ℕ)) (loaded : LoadedBatch) : Type 0 where
+  pub batch : Batch (List JobEntry)
+  pub comes : IsBatchIn region input batch
+  pub report : loaded_text loaded ≡ report_of batch
+  pub status : loaded_status loaded ≡ status_of batch
 
 -- ---- before and after its jobs run
 

@@ -2,7 +2,9 @@
 use Rattle.std.specs.Prelude.{◌≡◌, ◌≢◌, ℕ, zero, suc, false, List, [], ◌∷◌, length, Option, Some, None}
 use Rattle.job_steps.specs.declared.event.Event.TheVariants as event
 use Rattle.job_steps.specs.Standings.{of_job, admission}
+use Rattle.job_machine.specs.declared.workbench.Workplace.{Workplace}
 use Rattle.job_machine.specs.Machines.{MachineState, queue_of, is_over, machine_after}
+use Rattle.job_machine.specs.Workbench.{WorkbenchFits}
 use Rattle.batch_reader.specs.declared.entry.Fate.{Fate}
 use Rattle.batch_reader.specs.declared.entry.Fate.TheVariants.{Ready, Refused}
 use Rattle.batch_front.specs.declared.schedule.Item.{Item}
@@ -39,6 +41,13 @@ pub record IsSettled (m : MachineState) : Type 0 where
 pub record IsSettledBut (job : ℕ) (m : MachineState) : Type 0 where
   pub none_ended : (other : ℕ) → other ≢ job → is_over (of_job other m.standings) ≡ false
   pub none_admitted : admission m.region m.tasks (queue_of m) ≡ None
+
+-- the machine is now the wanted one, which has settled and has the same jobs as before, and the workbench fits it
+pub record SettlesAs {A : Type 0} (wanted old new : MachineState) (workbench : List (Workplace A)) : Type 0 where
+  pub state : new ≡ wanted
+  pub settled : IsSettled new
+  pub tasks : new.tasks ≡ old.tasks
+  pub fit : WorkbenchFits new workbench
 
 -- ---- turns
 

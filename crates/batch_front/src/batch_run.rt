@@ -6,11 +6,10 @@ ghost use Rattle.batch_front.specs.Runs.{Runs};
 
 use crate::device::{Device, MOST_INTERRUPTIONS};
 use crate::fault::FrontFault;
-use crate::load::load;
+use crate::load::read_jobs;
 use crate::machine_run::{run_on_caller, run_on_threads};
 use crate::options::Options;
 use crate::status::Status;
-use crate::transfer::read_batch;
 use crate::whole_report::write_report;
 use std::alloc::Allocator;
 use std::io::{Read, Write};
@@ -43,8 +42,7 @@ pub fn run_alone<A: Allocator + Copy, R: Read, W: Write>(
     ensures runs { Runs R.remaining W.contents options.now.region reader.old reader.new writer.old writer.new result }
     ensures never_mixed { IsErrOf result FrontFault.Mixed → ⊥ }
 {
-    let batch = read_batch(alloc, reader, options.region)?;
-    let loaded = load(alloc, batch, options)?;
+    let loaded = read_jobs(alloc, reader, options)?;
     let ran = run_on_caller(alloc, loaded, options)?;
     write_report(writer, &ran, reader.interrupts())
 }
@@ -83,8 +81,7 @@ where
     if options.schedule.is_some() {
         return run_alone(alloc, reader, writer, options);
     }
-    let batch = read_batch(alloc, reader, options.region)?;
-    let loaded = load(alloc, batch, options)?;
+    let loaded = read_jobs(alloc, reader, options)?;
     let ran = run_on_threads(rt, alloc, loaded, options, gate)?;
     write_report(writer, &ran, reader.interrupts())
 }

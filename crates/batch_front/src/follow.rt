@@ -4,7 +4,7 @@ ghost use Rattle.std.specs.Prelude.{◌≡◌, OnOk};
 ghost use Rattle.job_steps.specs.Standings.{first_standings, of_job};
 ghost use Rattle.job_machine.specs.Workbench.{WorkbenchFits};
 ghost use Rattle.job_machine.specs.Machines.{is_over};
-ghost use Rattle.batch_front.specs.Turns.{NoneEnded, IsSettled, IsSettledBut};
+ghost use Rattle.batch_front.specs.Turns.{NoneEnded, IsSettled, IsSettledBut, SettlesAs};
 ghost use Rattle.batch_front.specs.Turns.{after_item, after_schedule, after_turn, number_of, settled};
 
 use crate::reported_jobs::{ReportedJob, number_of};
@@ -22,10 +22,7 @@ fn admit_all<A: Allocator + Clone>(
 ) -> Result<(), AllocError>
     requires fit { WorkbenchFits machine.old workbench.old }
     requires none_ended { NoneEnded machine.old }
-    ensures state { OnOk result (machine.new ≡ settled machine.old) }
-    ensures settled { OnOk result (IsSettled machine.new) }
-    ensures tasks { OnOk result (machine.new.tasks ≡ machine.old.tasks) }
-    ensures fit { OnOk result (WorkbenchFits machine.new workbench.new) }
+    ensures { OnOk result (SettlesAs (settled machine.old) machine.old machine.new workbench.new) }
 {
     admitted_have_room();
     closed_change_nothing();
@@ -55,10 +52,7 @@ fn settle<A: Allocator + Clone>(
 ) -> Result<(), AllocError>
     requires fit { WorkbenchFits machine.old workbench.old }
     requires others_settled { IsSettledBut job machine.old }
-    ensures state { OnOk result (machine.new ≡ settled machine.old) }
-    ensures settled { OnOk result (IsSettled machine.new) }
-    ensures tasks { OnOk result (machine.new.tasks ≡ machine.old.tasks) }
-    ensures fit { OnOk result (WorkbenchFits machine.new workbench.new) }
+    ensures { OnOk result (SettlesAs (settled machine.old) machine.old machine.new workbench.new) }
 {
     closed_change_nothing();
     events_change_their_job();
@@ -107,10 +101,7 @@ fn follow_item<A: Allocator + Clone>(
 ) -> Result<(), AllocError>
     requires fit { WorkbenchFits machine.old workbench.old }
     requires settled { IsSettled machine.old }
-    ensures state { OnOk result (machine.new ≡ after_item reported.now item machine.old) }
-    ensures settled { OnOk result (IsSettled machine.new) }
-    ensures tasks { OnOk result (machine.new.tasks ≡ machine.old.tasks) }
-    ensures fit { OnOk result (WorkbenchFits machine.new workbench.new) }
+    ensures { OnOk result (SettlesAs (after_item reported.now item machine.old) machine.old machine.new workbench.new) }
 {
     closed_change_nothing();
     let Some(job) = number_of(reported, item.place()) else {

@@ -1,18 +1,24 @@
-//! From a batch that was read to a machine in which its jobs wait.
+//! From a reader to a machine on which the jobs of its batch wait.
 
 ghost use Rattle.std.specs.Prelude.{◌≡◌, ◌≤◌, length, IfOk};
 ghost use Rattle.vcode_base.specs.declared.limits.TheConstants.{MOST_JOBS};
 ghost use Rattle.job_steps.specs.Standings.{first_standings};
 ghost use Rattle.batch_reader.specs.Feeds.{HasFewJobs};
-ghost use Rattle.batch_front.specs.LoadedBatches.{IsWaiting, loaded_status, loaded_text};
+ghost use Rattle.batch_front.specs.Devices.{inner_of, IsFresh};
+ghost use Rattle.batch_front.specs.LoadedBatches.{IsLoaded, IsWaiting, loaded_status, loaded_text};
+ghost use Rattle.batch_front.specs.Reads.{Reads};
 ghost use Rattle.batch_front.specs.Reports.{report_of, ruled_entries, status_of};
 ghost use Rattle.batch_front.specs.ReportedJobs.{AreLoaded, BatchFits, EntriesFit};
 
+use crate::device::Device;
+use crate::fault::FrontFault;
 use crate::options::Options;
 use crate::reported_jobs::{ReportedJob, reported_jobs};
+use crate::transfer::read_batch;
 use batch_reader::{Batch, BatchFault, JobEntries};
 use job_machine::Machine;
 use std::alloc::{AllocError, Allocator};
+use std::io::Read;
 use vcode_base::{Rule, Sequence};
 
 /// A batch that was read, over the types of its machine and of its reported jobs.
@@ -47,7 +53,7 @@ fn load_jobs<A: Allocator + Copy>(
 
 /// A batch with its jobs that may run on a machine of its rule, in which they all wait.
 #[tactic(auto, unfolding(crate::specs::Reports::report_of, crate::specs::Reports::status_of))]
-pub(crate) fn load<A: Allocator + Copy>(
+fn load<A: Allocator + Copy>(
     alloc: A,
     batch: Batch<JobEntries<A>>,
     options: &Options,
@@ -65,4 +71,19 @@ pub(crate) fn load<A: Allocator + Copy>(
             Ok(Loaded::Jobs(machine, Sequence::from_vec(reported)))
         }
     }
+}
+
+/// Reads a batch from a reader that was not used, and loads its jobs, which all wait.
+pub(crate) fn read_jobs<A: Allocator + Copy, R: Read>(
+    alloc: A,
+    reader: &mut Device<R>,
+    options: &Options,
+) -> Result<LoadedBatch<A>, FrontFault>
+    requires { IsFresh reader.old }
+    ensures loaded { IfOk result (IsLoaded options.now.region (R.remaining (inner_of reader.old))) }
+    ensures waiting { IfOk result IsWaiting }
+    ensures read { Reads R.remaining reader.old reader.new result }
+{
+    let batch = read_batch(alloc, reader, options.region)?;
+    Ok(load(alloc, batch, options)?)
 }

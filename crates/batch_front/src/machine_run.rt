@@ -1,6 +1,6 @@
 //! A batch's jobs, run to their ends.
 
-ghost use Rattle.std.specs.Prelude.{◌≡◌, ◌≤◌, All, IfOk, IfSome, IfNone, IsErrOf, OnOk};
+ghost use Rattle.std.specs.Prelude.{◌≡◌, ◌≤◌, All, IfOk, IfSome, IsErrOf, OnOk};
 ghost use Rattle.job_steps.specs.Standings.{first_standings};
 ghost use Rattle.job_machine.specs.Machines.{Leads};
 ghost use Rattle.batch_front.specs.LoadedBatches.{IsWaiting, RanOut};
@@ -17,25 +17,6 @@ use std::alloc::{AllocError, Allocator};
 use std::sync::Wait;
 use std::thread::Threads;
 use step_scheduler::{Gate, RunFault, run_workers};
-
-/// Lets the jobs of a machine, which all wait, take their turns by the schedule, if there is one.
-fn follow_schedule<A: Allocator + Copy>(
-    alloc: A,
-    machine: &mut Machine<A>,
-    reported: &[ReportedJob<A>],
-    options: &Options,
-) -> Result<(), AllocError>
-    requires { machine.old.standings ≡ first_standings machine.old.tasks }
-    ensures followed { OnOk result (IfSome options.now.schedule
-        (λ schedule. machine.new ≡ after_schedule reported.now schedule.items machine.old)) }
-    ensures unchanged { OnOk result (IfNone options.now.schedule (machine.new ≡ machine.old)) }
-    ensures tasks { OnOk result (machine.new.tasks ≡ machine.old.tasks) }
-{
-    match &options.schedule {
-        Some(schedule) => follow(alloc, machine, reported, schedule),
-        None => Ok(()),
-    }
-}
 
 /// Runs the jobs of a machine to their ends on a desk that serves each.
 fn run_on_desk<A: Allocator + Clone>(
@@ -66,14 +47,15 @@ fn run_by_turns<A: Allocator + Copy>(
     ensures followed { OnOk result (IfSome options.now.schedule
         (λ schedule. Leads (after_schedule reported.now schedule.items machine.old) machine.new)) }
 {
-    follow_schedule(alloc, machine, reported, options)?;
+    if let Some(schedule) = &options.schedule {
+        follow(alloc, machine, reported, schedule)?;
+    }
     let desk = Desk::new(alloc, machine.most_words())?;
     run_on_desk(machine, desk)
 }
 
 /// Runs the jobs of a batch, which all wait, to their ends on the calling thread, first by the schedule, if there is
 /// one.
-#[tactic(auto, using(crate::proofs::LoadedLemmas::loaded_out))]
 pub(crate) fn run_on_caller<A: Allocator + Copy>(
     alloc: A,
     batch: LoadedBatch<A>,
@@ -93,7 +75,6 @@ pub(crate) fn run_on_caller<A: Allocator + Copy>(
 
 /// Runs the jobs of a batch, which all wait, to their ends: on lanes if more than one is asked for, else on worker
 /// threads, which pass the gate in the middle of each step.
-#[tactic(auto, using(crate::proofs::LoadedLemmas::loaded_out))]
 pub(crate) fn run_on_threads<A, H, G>(
     rt: &H,
     alloc: A,

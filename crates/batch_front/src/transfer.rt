@@ -1,13 +1,13 @@
 //! The bytes of a batch in, and those of its report out.
 
-ghost use Rattle.std.specs.Prelude.{◌≡◌, ◌⊎◌, ℕ, ◌+◌, ◌≤◌, true, false, List, [], take, IfOk, OnOk, OnErr, IsErrOf};
+ghost use Rattle.std.specs.Prelude.{◌≡◌, ℕ, ◌+◌, ◌≤◌, true, false, List, [], take, IfOk, OnOk, OnErr, IsErrOf};
 ghost use Rattle.std.specs.Io.KnownBytes.{Appends, Keeps};
 ghost use Rattle.batch_front.specs.declared.device.TheConstants.{MOST_INTERRUPTIONS};
 ghost use Rattle.batch_front.specs.Devices.{inner_of, has_failed, interrupts_of, is_flushed, is_flushing, IsFresh};
 ghost use Rattle.batch_front.specs.Devices.{HasWorked, IsAtFault};
 ghost use Rattle.batch_reader.specs.Feeds.{HasCome, HasFewJobs};
 ghost use Rattle.batch_front.specs.ReportedJobs.{BatchFits};
-ghost use Rattle.batch_front.specs.Inputs.{AreFirstBytes, IsBatchIn, ReadsFirstBytes, ReadsNoFurther};
+ghost use Rattle.batch_front.specs.Reads.{AreFirstBytes, IsBatchIn, Reads};
 
 use crate::device::{Device, MOST_INTERRUPTIONS, Trouble};
 use crate::fault::FrontFault;
@@ -32,12 +32,7 @@ fn feed_all<A: Allocator + Copy, R: Read>(
     ensures bytes { OnOk result ((bytes : List ℕ) × HasCome feed.new bytes
         × AreFirstBytes (R.remaining (inner_of reader.old)) bytes) }
     ensures region { feed.new.lines.region ≡ feed.old.lines.region }
-    ensures read_to_the_end { OnOk result (ReadsFirstBytes (R.remaining (inner_of reader.old))
-        (R.remaining (inner_of reader.new))) }
-    ensures read_no_further { ReadsNoFurther (R.remaining (inner_of reader.old)) (R.remaining (inner_of reader.new)) }
-    ensures reader_worked { OnOk result (HasWorked reader.new (interrupts_of reader.new)) }
-    ensures read_fault { IsErrOf result FrontFault.Read → IsAtFault reader.new (interrupts_of reader.new) }
-    ensures read_or_memory { OnErr result (IsErrOf result FrontFault.Read ⊎ IsErrOf result FrontFault.Memory) }
+    ensures read { Reads R.remaining reader.old reader.new result }
 {
     let mut piece = [0u8; PIECE];
     let mut left = MOST_READ;
@@ -70,12 +65,7 @@ pub(crate) fn read_batch<A: Allocator + Copy, R: Read>(
     ensures batch { IfOk result (IsBatchIn region (R.remaining (inner_of reader.old))) }
     ensures few { IfOk result HasFewJobs }
     ensures fits { IfOk result (BatchFits region) }
-    ensures read_to_the_end { OnOk result (ReadsFirstBytes (R.remaining (inner_of reader.old))
-        (R.remaining (inner_of reader.new))) }
-    ensures read_no_further { ReadsNoFurther (R.remaining (inner_of reader.old)) (R.remaining (inner_of reader.new)) }
-    ensures reader_worked { OnOk result (HasWorked reader.new (interrupts_of reader.new)) }
-    ensures read_fault { IsErrOf result FrontFault.Read → IsAtFault reader.new (interrupts_of reader.new) }
-    ensures read_or_memory { OnErr result (IsErrOf result FrontFault.Read ⊎ IsErrOf result FrontFault.Memory) }
+    ensures read { Reads R.remaining reader.old reader.new result }
 {
     let mut feed = Feed::new(alloc, region as usize)?;
     match feed_all(reader, &mut feed) {

@@ -1,7 +1,7 @@
-use Rattle.std.proofs.Common.{◌≡◌, ◌+◌, refl, ap, ◌∙◌, arith, take}
+use Rattle.std.proofs.Common.{◌+◌, refl, arith}
 use Rattle.std.proofs.lemmas.Grind.{common_steps}
 use Rattle.std.proofs.lemmas.List.{take_all}
-use Rattle.batch_front.specs.Turns.{after_items, settled}
+use Rattle.batch_front.specs.Turns.{settled}
 use Rattle.batch_front.proofs.Settling.{none_ended_first}
 use Rattle.batch_front.proofs.TurnLemmas.{workbench_fits, items_with}
 use Rattle.batch_front.proofs.follow.follow.Goals as goal
@@ -15,18 +15,13 @@ admit_all-requires-clause-none_ended g c = none_ended_first c.args.machine.now c
 
 pub loop-item-preserved : goal.loop-item-preserved
 loop-item-preserved g c =
-    let inv = c.loop-item.invariant in
-    record {
-      state = items_with c.args.reported.now c.args.schedule.now c.loop-item.item-index (c.loop-item.item-index + 1) _
-          (settled c.args.machine.now) c.loop-item.machine c.follow_item.new.machine
-          refl c.loop-item-test.true inv.state c.in_ok-follow_item.ensures.state;
-      settled = c.in_ok-follow_item.ensures.settled;
-      tasks = c.in_ok-follow_item.ensures.tasks ∙ inv.tasks;
-      fit = c.in_ok-follow_item.ensures.fit;
-    }
+    grind (
+      arith,
+      items_with c.args.reported.now c.args.schedule.now c.loop-item.item-index (c.loop-item.item-index + 1) _
+          (settled c.args.machine.now) c.loop-item.machine c.follow_item.new.machine refl c.loop-item-test.true
+          c.loop-item.invariant.state c.in_ok-follow_item.ensures.state,
+    )
 
 pub returns-clause-state : goal.returns-clause-state
 returns-clause-state g c =
-    let whole : take c.loop-item.item-index c.args.schedule.now ≡ c.args.schedule.now =
-    take_all c.loop-item.item-index c.args.schedule.now (grind (arith, common_steps)) in
-    c.loop-item.invariant.state ∙ ap (λ items. after_items c.args.reported.now items (settled c.args.machine.now)) whole
+    grind (arith, take_all c.loop-item.item-index c.args.schedule.now (grind (arith, common_steps)))
