@@ -153,8 +153,8 @@ impl<A: Allocator> Trail<A> {
         Ok(())
     }
 
-    /// Notes that a line has made a vector of a kind in the block of this number. Vectors of one instruction come from the
-    /// bottom of the stack up.
+    /// Notes that a line has made a vector of a kind in the block of this number. Vectors of one instruction come from
+    /// the bottom of the stack up.
     ///
     /// # Errors
     ///

@@ -63,8 +63,8 @@ impl Mark {
     }
 }
 
-/// Executes the next instruction. Answers where it is. `None` if it isn't executed, since it ends the job, or if there is
-/// none.
+/// Executes the next instruction. Answers where it is; `None` if it isn't executed, since it ends the job, or if there
+/// is none.
 #[inline(always)]
 pub fn pass_one(uses: &mut Uses<Global>) -> Option<Passed> {
     let run = uses.run();

@@ -28,17 +28,18 @@ struct Note {
     is_read: bool,
 }
 
-/// An instruction that takes operands or makes results: how many elements its operands have, and the kinds of its results
-/// from the bottom of the stack up.
+/// An instruction that takes operands or makes results: how many elements its operands have, and the kinds of its
+/// results from the bottom of the stack up.
 #[derive(Clone, Copy, Drop)]
 pub(crate) struct Work {
     pub(crate) elements: u64,
     pub(crate) results: &'static [Kind],
 }
 
-/// What a run holds: its vectors, each at the number of its block; the next instruction with the elements of its
-/// operands, and the blocks of these, if it has operands or results; the most words so far, how often they were passed, and the line at which they were passed last; and notes on the
-/// vectors that were held before that, each from the first change on.
+/// What a run holds: its vectors, each at the number of its block; the next instruction, with the elements and the
+/// blocks of its operands, if it has operands or results; the most words so far, how often they were passed, and the
+/// line at which they were passed last; and notes on the vectors that were held before that, each from the first change
+/// on.
 #[derive(Drop)]
 pub(crate) struct Holds {
     vectors: Vec<Vector>,
@@ -252,8 +253,8 @@ impl Holds {
         }
     }
 
-    /// Follows an instruction of a line with operands or results, which was looked at and which a run has executed, up to
-    /// its results. Answers what it was.
+    /// Follows an instruction with operands or results, which was looked at and which a run has executed, up to its
+    /// results. Answers what it was.
     pub(crate) fn release(
         &mut self,
         trail: &Trail<Global>,

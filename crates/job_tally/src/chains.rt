@@ -24,8 +24,8 @@ pub struct Chain {
     pub count: Count,
 }
 
-/// The chains of a run, that of `MAIN` alone first, the chain of the innermost call, and those of the other active calls,
-/// that of `MAIN` first.
+/// The chains of a run, that of `MAIN` alone first; the chain of the innermost call; and those of the other active
+/// calls, that of `MAIN` first.
 ///
 /// Each chain has a row, which has for each function the chain in which it goes on if it is called there: for one that
 /// runs in the chain already the chain up to it, and for one that was called from the chain the chain with it. So a
@@ -195,8 +195,7 @@ impl Chains {
         }
     }
 
-    /// Counts what the innermost call has executed itself. Answers whether the chain tells its function: it doesn't if it
-    /// is a rest.
+    /// Counts what the innermost call has executed itself. Answers whether the chain has its function: a rest hasn't.
     #[inline(always)]
     pub fn count(&mut self, own: Count) -> bool {
         match self.chains.get_mut(self.innermost) {

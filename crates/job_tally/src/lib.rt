@@ -2,7 +2,8 @@
 //!
 //! What was executed between two instructions that begin or end a call is a [`Stretch`], and is counted as one: by
 //! functions in a [`Tally`], by functions that run inside one another in [`Chains`], and by columns of instructions in
-//! [`Bands`]. The elements of operands and results are counted by lines too. [`totals_of`] adds up by lines of a source.
+//! [`Bands`]. The elements of operands and results are counted by lines too. [`totals_of`] adds up by lines of a
+//! source.
 #![tactic(auto)]
 
 mod bands;
