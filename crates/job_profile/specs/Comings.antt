@@ -10,7 +10,7 @@ use Rattle.job_profile.specs.declared.coming.Effect.{Effect}
 use Rattle.job_profile.specs.declared.coming.Effect.TheVariants as effect
 use Rattle.job_profile.specs.Walks.{next_line_in}
 
--- The instruction of a line moves entries, or calls a function, or ends a call. Else it takes operands or makes results.
+-- The instruction of a line moves entries, calls a function or ends a call. Else it takes operands or makes results.
 abbrev pub effect_of : CodeItem Item → Effect
 effect_of (code_item.Do (Move motion lower upper)) = effect.Moves motion
 effect_of (code_item.Do (Call name)) = effect.Calls

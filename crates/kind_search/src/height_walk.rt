@@ -137,7 +137,7 @@ impl<A: Allocator> HeightWalk<A> {
     }
 }
 
-/// A fault of kinds isn't one here: the walk by kinds comes to the same line. The path ends there.
+/// A line with a fault of kinds ends the path without a fault here: the walk by kinds meets this line and reports it.
 impl<A: Allocator> AbstractStack for HeightWalk<A> {
     /// A path takes more entries than a signature may have operands.
     type Fault = PlacedFault;

@@ -49,7 +49,8 @@ walk_over_body scope b ks = ap (after scope [] (Ok ks)) (sym (append-nil (body_l
 
 -- an IF goes on after its BOOL
 goes_on : (wanted : Result State Fault) (next : State → Result State Fault)
-    (r : Result (Unit {0}) (TextFault KindFault)) (new : State) → Goes r new wanted → IsErr r → Goes r new (wanted >>= next)
+    (r : Result (Unit {0}) (TextFault KindFault)) (new : State) → Goes r new wanted → IsErr r
+    → Goes r new (wanted >>= next)
 goes_on wanted next (Ok x) new h err = absurd (cc)
 goes_on wanted next (Err Memory) new h err = tt
 goes_on wanted next (Err (At fault line)) new h err = rw h refl

@@ -32,7 +32,8 @@ abbrev pub DoesInstruction : {S F : Type 0} → (Step → Change S F) → (List 
     → Change S F
 DoesInstruction After AfterCall (Move motion i j) line = After (Shift motion i j line)
 DoesInstruction After AfterCall (Call name) line = AfterCall name line
-DoesInstruction After AfterCall item line = After (Replace (operand_kinds (op_of item)) (result_kinds (op_of item)) line)
+DoesInstruction After AfterCall item line =
+    After (Replace (operand_kinds (op_of item)) (result_kinds (op_of item)) line)
 
 -- An IF takes a BOOL.
 abbrev pub DoesIf : {S F : Type 0} → (Step → Change S F) → ℕ → Change S F

@@ -44,7 +44,7 @@ invariant_of-self-2 g c =
     (counts c.self.invariant (c.steps_move.ensures _ _ _ c.self.invariant.on_run come.progress_is) c.grow.ensures.same
     (λ e. c.if-now-executed.false (after ∙ e ∙ sym before)) c.add.ensures.strip c.add.ensures.fine
     c.add.ensures.highest c.in_ok-grow.ensures.long
-    (ap (λ (m : Coming). m.line) c.self.invariant.coming_is ∙ line_coming (progress_of c.self.inside.uses)) c.count.ensures
-    (c.note_peak.ensures ∙ (λ i. cond (nat_lt (peak i) (next i)) (after i) c.self.inside.peak_after))
+    (ap (λ (m : Coming). m.line) c.self.invariant.coming_is ∙ line_coming (progress_of c.self.inside.uses))
+    c.count.ensures (c.note_peak.ensures ∙ (λ i. cond (nat_lt (peak i) (next i)) (after i) c.self.inside.peak_after))
     (λ more. asked (sym (ap executed_count_in come.progress_is) ∙ more)) (rw shown at c.held-least.ensures)
     (rw shown at c.coming-self-inside.ensures))
