@@ -3,8 +3,8 @@ use Rattle.std.proofs.Common.{◌≡◌, ℕ, zero, suc, ◌+◌, ◌<◌, ◌�
 use Rattle.std.proofs.Common.{get_or, take, drop, refl, sym, ap, ◌∙◌, arith, add-one, append_assoc}
 use Rattle.std.proofs.lemmas.List.{append-nil}
 use Rattle.batch_reader.specs.Lines.{lines}
-use Rattle.batch_filler.specs.declared.part.Part.{Part}
-use Rattle.batch_filler.specs.Filled.{filled, part_after, text_before, texts_after}
+use Rattle.batch_reader.specs.declared.section.Section.{Section}
+use Rattle.batch_filler.specs.Filled.{filled, next_section, text_before, texts_after}
 
 -- ---- the first line
 
@@ -46,23 +46,23 @@ last_line (b ∷ c ∷ bs) some none = rw (
 
 -- ---- what is put before it
 
-filled_none : (part : Part) (texts all : List (List ℕ)) → all ≡ [] → filled part texts all ≡ []
+filled_none : (section : Section) (texts all : List (List ℕ)) → all ≡ [] → filled section texts all ≡ []
 unfolding filled
-filled_none part texts all none = rw none refl
+filled_none section texts all none = rw none refl
 
-pub filled_end : (part : Part) (texts all : List (List ℕ)) (new whole : List ℕ) → all ≡ []
-    → new ++ filled part texts all ≡ whole → new ≡ whole
-filled_end part texts all new whole none so_far =
-    sym (append-nil new) ∙ ap (λ t. new ++ t) (sym (filled_none part texts all none)) ∙ so_far
+pub filled_end : (section : Section) (texts all : List (List ℕ)) (new whole : List ℕ) → all ≡ []
+    → new ++ filled section texts all ≡ whole → new ≡ whole
+filled_end section texts all new whole none so_far =
+    sym (append-nil new) ∙ ap (λ t. new ++ t) (sym (filled_none section texts all none)) ∙ so_far
 
-pub filled_next : (part : Part) (texts all rest : List (List ℕ)) (new line whole : List ℕ) → all ≡ line ∷ rest
-    → new ++ filled part texts all ≡ whole
-    → ((new ++ text_before part texts line) ++ line)
-    ++ filled (part_after part line) (texts_after part texts line) rest ≡ whole
+pub filled_next : (section next : Section) (texts all rest : List (List ℕ)) (new line whole : List ℕ)
+    → all ≡ line ∷ rest → next ≡ next_section section line → new ++ filled section texts all ≡ whole
+    → ((new ++ text_before section next texts) ++ line) ++ filled next (texts_after section next texts) rest ≡ whole
 unfolding filled
-filled_next part texts all rest new line whole is so_far =
-    let next = filled (part_after part line) (texts_after part texts line) rest in
-    append_assoc (new ++ text_before part texts line) line next
-    ∙ append_assoc new (text_before part texts line) (line ++ next)
-    ∙ ap (λ ls. new ++ filled part texts ls) (sym is)
+filled_next section next texts all rest new line whole is after so_far =
+    let others = filled next (texts_after section next texts) rest in
+    append_assoc (new ++ text_before section next texts) line others
+    ∙ append_assoc new (text_before section next texts) (line ++ others)
+    ∙ ap (λ n. new ++ (text_before section n texts ++ (line ++ filled n (texts_after section n texts) rest))) after
+    ∙ ap (λ ls. new ++ filled section texts ls) (sym is)
     ∙ so_far

@@ -2,19 +2,30 @@
 
 ghost use Rattle.std.specs.Prelude.{◌≡◌, IfOk, map};
 ghost use Rattle.batch_reader.specs.Lines.{lines};
-ghost use Rattle.batch_filler.specs.Filled.{filled, text_before, texts_after};
-ghost use Rattle.batch_filler.specs.declared.part.Part.TheVariants.{Between};
+ghost use Rattle.batch_reader.specs.declared.section.Section.TheVariants.{Between};
+ghost use Rattle.batch_filler.specs.Filled.{ends_signatures, filled, text_before, texts_after};
 
 use crate::line::first_line;
-use crate::part::{Part, ends_signatures, part_after};
+use batch_reader::Section;
 use std::alloc::{AllocError, Allocator};
 
-/// What comes before a line that is a part of this kind: the first of the texts if it ends the signature lines of a
-/// job.
-fn text_before<'a, A: Allocator>(part: Part, texts: &'a [Vec<u8, A>], line: &[u8]) -> &'a [u8]
-    ensures { result.now ≡ text_before part (map (λ text. text.items) texts.now) line.now }
+/// Whether a line that belongs to a section ends the signature lines of a job, if the next line belongs to `next`.
+fn ends_signatures(section: Section, next: Section) -> bool
+    ensures { result ≡ ends_signatures section next }
 {
-    if !ends_signatures(part, line) {
+    matches!((section, next), (Section::Signatures, Section::Code))
+}
+
+/// What comes before a line that belongs to a section: the first of the texts if the line ends the signature lines of
+/// a job.
+fn text_before<'a, A: Allocator>(
+    section: Section,
+    next: Section,
+    texts: &'a [Vec<u8, A>],
+) -> &'a [u8]
+    ensures { result.now ≡ text_before section next (map (λ text. text.items) texts.now) }
+{
+    if !ends_signatures(section, next) {
         return &[];
     }
     match texts.first() {
@@ -23,15 +34,15 @@ fn text_before<'a, A: Allocator>(part: Part, texts: &'a [Vec<u8, A>], line: &[u8
     }
 }
 
-/// The texts that are left after a line.
+/// The texts that are left after such a line.
 fn texts_after<'a, A: Allocator>(
-    part: Part,
+    section: Section,
+    next: Section,
     texts: &'a [Vec<u8, A>],
-    line: &[u8],
 ) -> &'a [Vec<u8, A>]
-    ensures { map (λ text. text.items) result.now ≡ texts_after part (map (λ text. text.items) texts.now) line.now }
+    ensures { map (λ text. text.items) result.now ≡ texts_after section next (map (λ text. text.items) texts.now) }
 {
-    if !ends_signatures(part, line) {
+    if !ends_signatures(section, next) {
         return texts;
     }
     match texts.split_first() {
@@ -55,14 +66,15 @@ pub fn fill_batch<A: Allocator>(
         (λ new. new.items ≡ filled Between (map (λ text. text.items) texts.now) (lines batch.now)) }
 {
     let mut new = Vec::new(alloc);
-    let mut part = Part::Between;
+    let mut section = Section::Between;
     let mut left = texts;
     let mut rest = batch;
     while let Some((line, after)) = first_line(rest) {
-        new.extend_from_slice(text_before(part, left, line))?;
+        let next = section.after(line);
+        new.extend_from_slice(text_before(section, next, left))?;
         new.extend_from_slice(line)?;
-        left = texts_after(part, left, line);
-        part = part_after(part, line);
+        left = texts_after(section, next, left);
+        section = next;
         rest = after;
     }
     Ok(new)

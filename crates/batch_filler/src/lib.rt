@@ -5,6 +5,5 @@
 
 mod fill;
 mod line;
-mod part;
 
 pub use fill::fill_batch;

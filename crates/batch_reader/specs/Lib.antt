@@ -9,4 +9,5 @@ pub mod JobLines
 pub mod Laws
 pub mod Lines
 pub mod Runs
+pub mod Sections
 pub mod Standings

@@ -12,7 +12,7 @@ use vcode_base::{LineWords, Parentheses};
 
 /// What a line of a batch is by itself.
 #[derive(Clone, Copy, PartialEq, Eq, Debug)]
-pub(crate) enum Heading {
+pub enum Heading {
     /// It has no word.
     Blank,
     /// Its words are `BATCH` and `2`.
@@ -29,7 +29,7 @@ pub(crate) enum Heading {
 
 /// What a line is.
 #[inline(always)]
-pub(crate) fn heading_of(line: &[u8]) -> Heading
+pub fn heading_of(line: &[u8]) -> Heading
     ensures { result ≡ heading_of (batch_words line.now) }
 {
     if !may_be_heading(line) {

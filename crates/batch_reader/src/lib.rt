@@ -24,9 +24,10 @@
 //! the region's, at its JOB line; else the first fault of its signatures; else the first of its code; else the
 //! first of its kinds.
 //!
-//! [`Feed`] takes the pieces. [`laws`] says that a batch has one answer. `specs/Batches` has the rule of a
-//! batch and its jobs as texts, or what refuses it; `specs/Fates` what becomes of each job, and the answer to a
-//! batch; `specs/Standings` and `specs/Feeds` what is kept of a batch whose end hasn't come.
+//! [`Feed`] takes the pieces. [`Section`] says which lines of a text are the parts of a job. [`laws`] says that a
+//! batch has one answer. `specs/Batches` has the rule of a batch and its jobs as texts, or what refuses it;
+//! `specs/Fates` what becomes of each job, and the answer to a batch; `specs/Standings` and `specs/Feeds` what is kept
+//! of a batch whose end hasn't come.
 #![tactic(auto)]
 
 mod batch_line;
@@ -42,9 +43,12 @@ pub mod laws;
 mod line;
 mod line_reader;
 mod part;
+mod section;
 mod stage;
 mod step;
 
 pub use entry::{Batch, Entry, Fate, JobEntries, JobEntry};
 pub use fault::{BatchFault, JobFault};
 pub use feed::Feed;
+pub use heading::{Heading, heading_of};
+pub use section::Section;

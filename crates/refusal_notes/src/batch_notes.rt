@@ -2,8 +2,8 @@
 
 use crate::lines::{Lines, printable};
 use crate::meanings::batch_meaning;
-use crate::parts::{Scan, Stage, begins_with, is_only, scan_before};
-use batch_reader::{Batch, BatchFault, Feed, JobEntries};
+use crate::parts::{Scan, scan_before};
+use batch_reader::{Batch, BatchFault, Feed, Heading, JobEntries, Section, heading_of};
 use std::alloc::{AllocError, Global};
 use vcode_base::limits::{
     LONGEST_NAME, MOST_BATCH_BYTES, MOST_BUDGET, MOST_CALLS, MOST_CELLS, MOST_JOBS, MOST_WORDS,
@@ -128,6 +128,15 @@ fn words_of(alloc: Global, line: &[u8]) -> Result<Vec<&[u8]>, AllocError> {
     Ok(words)
 }
 
+/// Whether the first word of a line is this one.
+fn begins_with(line: &[u8], word: &[u8]) -> bool {
+    let mut words = LineWords::new(line, Parentheses::StandInWords);
+    match words.next() {
+        Some(first) => first == word,
+        None => false,
+    }
+}
+
 /// What is wrong with a JOB line.
 fn job_line_note(alloc: Global, line: &[u8]) -> Result<String, AllocError> {
     let words = words_of(alloc, line)?;
@@ -162,9 +171,9 @@ fn between_note(alloc: Global, line: &[u8]) -> Result<String, AllocError> {
 
 /// What was expected at a line that is no good line between jobs, or none after a JOB line.
 fn bad_line_note(alloc: Global, lines: &Lines, number: u64) -> Result<String, AllocError> {
-    match scan_before(lines, number).stage {
-        Stage::Between => between_note(alloc, lines.bytes(number).unwrap_or(&[])),
-        Stage::Signatures | Stage::Code => String::from_str(
+    match scan_before(lines, number).section {
+        Section::Between => between_note(alloc, lines.bytes(number).unwrap_or(&[])),
+        Section::Headed | Section::Signatures | Section::Code => String::from_str(
             alloc,
             "expected: SIGNATURES, alone on the line after the JOB line",
         ),
@@ -178,16 +187,16 @@ fn unfinished_note(alloc: Global, lines: &Lines, job: u64) -> Result<String, All
         let Some(line) = lines.bytes(number) else {
             break;
         };
-        if scan.stage == Stage::Signatures && is_only(line, b"END") {
+        if scan.section == Section::Signatures && heading_of(line) == Heading::End {
             return format!(in alloc; "expected before the END at line {number}: CODE");
         }
         scan.take(number, line);
     }
     String::from_str(
         alloc,
-        match scan.stage {
-            Stage::Code => "expected before the end of the batch: END",
-            Stage::Signatures | Stage::Between =>
+        match scan.section {
+            Section::Code => "expected before the end of the batch: END",
+            Section::Between | Section::Headed | Section::Signatures =>
                 "expected before the end of the batch: CODE, and then END",
         },
     )
@@ -197,7 +206,10 @@ fn unfinished_note(alloc: Global, lines: &Lines, job: u64) -> Result<String, All
 fn too_large_note(alloc: Global, lines: &Lines, number: u64) -> Result<String, AllocError> {
     let line = lines.bytes(number).unwrap_or(&[]);
     let scan = scan_before(lines, number);
-    if scan.stage == Stage::Between && scan.jobs >= MOST_JOBS as u64 && begins_with(line, b"JOB") {
+    if scan.section == Section::Between
+        && scan.jobs >= MOST_JOBS as u64
+        && begins_with(line, b"JOB")
+    {
         return format!(in alloc; "a batch has at most {MOST_JOBS} jobs");
     }
     format!(in alloc; "a batch has at most {MOST_BATCH_BYTES} bytes")

@@ -1,8 +1,8 @@
 //! Where the parts of a job are among the lines of a batch.
 
 use crate::lines::Lines;
+use batch_reader::Section;
 use std::alloc::{AllocError, Global};
-use vcode_base::{LineWords, Parentheses};
 
 /// Lines one after another: the number of the first, and the number of the line after the last.
 #[derive(Clone, Copy, Drop)]
@@ -26,39 +26,13 @@ pub struct Parts {
     pub code: LineSpan,
 }
 
-/// What the next line of a batch is a part of.
-#[derive(Clone, Copy, PartialEq, Eq, Drop)]
-pub(crate) enum Stage {
-    Between,
-    Signatures,
-    Code,
-}
-
-/// What the lines so far have shown: how many jobs they begin, the parts of the last one, and what the next line is a
-/// part of.
+/// What the lines so far have shown: how many jobs they begin, the parts of the last one, and the section of the next
+/// line.
 #[derive(Clone, Copy, Drop)]
 pub(crate) struct Scan {
-    pub stage: Stage,
+    pub section: Section,
     pub jobs: u64,
     pub parts: Parts,
-}
-
-/// Whether the first word of a line is this one.
-pub(crate) fn begins_with(line: &[u8], word: &[u8]) -> bool {
-    let mut words = LineWords::new(line, Parentheses::StandInWords);
-    match words.next() {
-        Some(first) => first == word,
-        None => false,
-    }
-}
-
-/// Whether the only word of a line is this one.
-pub(crate) fn is_only(line: &[u8], word: &[u8]) -> bool {
-    let mut words = LineWords::new(line, Parentheses::StandInWords);
-    match words.next() {
-        Some(first) => first == word && words.next().is_none(),
-        None => false,
-    }
 }
 
 impl Scan {
@@ -66,7 +40,7 @@ impl Scan {
     pub(crate) fn new() -> Scan {
         let none = LineSpan { first: 0, end: 0 };
         Scan {
-            stage: Stage::Between,
+            section: Section::Between,
             jobs: 0,
             parts: Parts {
                 job: 0,
@@ -78,24 +52,21 @@ impl Scan {
 
     /// Takes the next line, which has this number.
     pub(crate) fn take(&mut self, number: u64, line: &[u8]) {
-        match self.stage {
-            Stage::Between if begins_with(line, b"JOB") => {
+        let next = self.section.after(line);
+        match (self.section, next) {
+            (Section::Between, Section::Headed) => {
                 self.jobs = self.jobs.saturating_add(1);
                 self.parts.job = number;
-                self.parts.signatures.first = number.saturating_add(2);
-                self.stage = Stage::Signatures;
             }
-            Stage::Signatures if is_only(line, b"CODE") => {
+            (Section::Headed, _) => self.parts.signatures.first = number.saturating_add(1),
+            (Section::Signatures, Section::Code) => {
                 self.parts.signatures.end = number;
                 self.parts.code.first = number.saturating_add(1);
-                self.stage = Stage::Code;
             }
-            Stage::Code if is_only(line, b"END") => {
-                self.parts.code.end = number;
-                self.stage = Stage::Between;
-            }
+            (Section::Code, Section::Between) => self.parts.code.end = number,
             _ => {}
         }
+        self.section = next;
     }
 }
 
@@ -119,9 +90,9 @@ pub fn parts_of_jobs(alloc: Global, lines: &Lines) -> Result<Vec<Parts>, AllocEr
         let Some(line) = lines.bytes(number) else {
             break;
         };
-        let before = scan.stage;
+        let before = scan.section;
         scan.take(number, line);
-        if before == Stage::Code && scan.stage == Stage::Between {
+        if before == Section::Code && scan.section == Section::Between {
             found.push(scan.parts)?;
         }
     }
@@ -133,7 +104,7 @@ pub(crate) fn parts_of(lines: &Lines, place: u64) -> Option<Parts> {
     let mut scan = Scan::new();
     for number in 1..u64::MAX {
         scan.take(number, lines.bytes(number)?);
-        if scan.jobs == place && scan.stage == Stage::Between {
+        if scan.jobs == place && scan.section == Section::Between {
             return Some(scan.parts);
         }
     }

@@ -7,8 +7,7 @@ loop-line-preserved g c = rw (
   c.in_ok-extend_from_slice.ensures.items,
   c.text_before.ensures,
   c.texts_after-left.ensures,
-  c.part_after-part.ensures,
-) (filled_next _ _ _ _ _ _ _ c.in-Some.ensures.0 c.loop-line.invariant)
+) (filled_next _ _ _ _ _ _ _ _ c.in-Some.ensures.0 c.after-next.ensures c.loop-line.invariant)
 
 pub returns : goal.returns
 returns g c = filled_end _ _ _ _ _ c.in_default.ensures c.loop-line.invariant
