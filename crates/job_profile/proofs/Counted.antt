@@ -75,7 +75,7 @@ module _ {task : Task} {p q : Progress} {was grown : List ℕ} {after : ℕ} {co
   stays same is = grind arith
 
   -- one was
-  executes : executed_count_in q ≢ executed_count_in p → HasExecuted task p q
+  pub executes : executed_count_in q ≢ executed_count_in p → HasExecuted task p q
   executes other = grind (arith, moved.moves)
 
   -- its count stays within the number of instructions

@@ -26,7 +26,7 @@ mod times;
 mod uses;
 
 pub use coming::{Coming, Effect};
-pub use profile::Profile;
+pub use profile::{Profile, Stepped};
 pub use run::Run;
 pub use stop::Stop;
 pub use strip::{Column, MOST_COLUMNS};

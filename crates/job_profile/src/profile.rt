@@ -1,10 +1,11 @@
 //! The profile of a job: how often its lines were executed, when it first held its peak, and the words that it held
 //! over time.
 
-ghost use Rattle.std.specs.Prelude.{◌≡◌, ℕ, nat_lt, if◌then◌else◌, IfOk, OnErr, OnOk, slice_index, sum};
+ghost use Rattle.std.specs.Prelude.{◌≡◌, ◌+◌, ℕ, nat_lt, if◌then◌else◌, IfOk, MatchOption, OnErr, OnOk, slice_index};
+ghost use Rattle.std.specs.Prelude.{sum};
 ghost use Rattle.job_steps.specs.Runs.{executed_count_in, peak_in, progress_from};
 ghost use Rattle.job_steps.specs.States.{ruled};
-ghost use Rattle.job_slots.specs.Answers.{told_demand_in};
+ghost use Rattle.job_slots.specs.Answers.{demand_in};
 ghost use Rattle.job_profile.specs.Walks.{HasCome, ending_at, ending_of, first_run, goes_on, progress_of};
 ghost use Rattle.job_profile.specs.Columns.{AreColumns, highest};
 ghost use Rattle.job_profile.specs.Comings.{coming_in};
@@ -19,6 +20,15 @@ use job_steps::Job;
 use std::alloc::{AllocError, Allocator};
 use std::marker::Model;
 use vcode_base::Rule;
+
+/// What a step of a profile reports.
+#[derive(Clone, Copy)]
+pub struct Stepped {
+    /// Whether the job goes on.
+    pub goes_on: bool,
+    /// The words that were held and needed at the instruction, if one was executed.
+    pub words: Option<usize>,
+}
 
 /// A run of one job alone, with how often each line was executed, and with the words that it held over time.
 ///
@@ -100,17 +110,20 @@ impl<A: Allocator + Clone> Profile<A> {
 }
 
 impl<A: Allocator> Profile<A> {
-    /// Executes the next instruction, which is counted and goes into a column; true if the job goes on. A job whose run
-    /// is over stays as it is.
+    /// Executes the next instruction, which is counted and goes into a column. A job whose run is over stays as it is.
     ///
     /// # Errors
     ///
     /// [`AllocError`] if memory for the counts was refused. Nothing changes then.
     #[inline(always)]
-    pub fn step(&mut self) -> Result<bool, AllocError>
+    pub fn step(&mut self) -> Result<Stepped, AllocError>
         ensures run { OnOk result
             (HasCome self.old.task (progress_from self.old.task (progress_of self.old)) self.new) }
-        ensures goes_on { IfOk result (λ on. on ≡ goes_on (progress_of self.new)) }
+        ensures goes_on { IfOk result (λ step. step.goes_on ≡ goes_on (progress_of self.new)) }
+        ensures words { let executed = executed_count_in (progress_of self.old) in IfOk result
+            (λ step. MatchOption step.words (executed_count_in (progress_of self.new) ≡ executed)
+            (λ words. (executed_count_in (progress_of self.new) ≡ executed + 1)
+            × (words ≡ demand_in self.old.task.rule (progress_of self.old)))) }
         ensures unchanged { OnErr result (self.new ≡ self.old) }
     {
         steps_move();
@@ -127,12 +140,18 @@ impl<A: Allocator> Profile<A> {
         self.coming = run.coming();
         let (now, least) = (run.executed(), run.held());
         if now == executed {
-            return Ok(goes_on);
+            return Ok(Stepped {
+                goes_on,
+                words: None,
+            });
         }
         note_peak(&mut self.peak_after, peak, run.peak(), now);
         count(&mut self.times, line);
         self.strip.add(Column { most, least, line });
-        Ok(goes_on)
+        Ok(Stepped {
+            goes_on,
+            words: Some(most),
+        })
     }
 
     /// What the next instruction does, and its line.
@@ -141,14 +160,6 @@ impl<A: Allocator> Profile<A> {
         ensures { result ≡ coming_in (progress_of self.now) }
     {
         self.coming
-    }
-
-    /// The words that the run holds and needs at its next instruction, as [`Run::demand`] answers them.
-    #[inline(always)]
-    pub fn demand(&self) -> usize
-        ensures { result ≡ told_demand_in self.now.task.rule (progress_of self.now) }
-    {
-        self.uses.run().demand_by(self.coming.effect)
     }
 
     /// What the run uses of its limits.

@@ -11,8 +11,7 @@ use job_tally::{Bands, Chains, Stretch, Tally, innermost};
 use std::alloc::{AllocError, Global};
 use vcode_base::{MemoryFault, Rule};
 
-/// Whether the words that are held and needed at each instruction are counted for its line and its function. That
-/// takes a look more at each instruction.
+/// Whether the words that are held and needed at each instruction are counted for its line and its function.
 #[derive(Clone, Copy, PartialEq, Eq)]
 pub enum Words {
     /// They are counted.
@@ -82,12 +81,12 @@ impl Counts {
         })
     }
 
-    /// The words that are held and needed at the next instruction of a profile's run, if they are counted.
+    /// Counts the words that were held and needed at an instruction of a line and a function, if words are counted.
     #[inline(always)]
-    fn words_at(&self, profile: &Profile<Global>) -> Option<usize> {
+    fn count_words(&mut self, line: u64, function: usize, words: usize) -> Result<(), AllocError> {
         match self.words {
-            Words::Counted => Some(profile.demand()),
-            Words::LeftOut => None,
+            Words::Counted => self.tally.count_words(line, function, words),
+            Words::LeftOut => Ok(()),
         }
     }
 
@@ -247,22 +246,16 @@ impl Survey {
     fn step(&mut self, coming: Coming, frame: Frame) -> Result<bool, AllocError> {
         let run = self.profile.run();
         self.holds.look(&self.trail, run, coming.effect)?;
-        let words = self.counts.words_at(&self.profile);
-        let executed = run.executed();
-        let goes_on = self.profile.step()?;
-        if self.run().executed() > executed {
-            if let Some(words) = words {
-                self.counts
-                    .tally
-                    .count_words(coming.line, frame.function, words)?;
-            }
+        let stepped = self.profile.step()?;
+        if let Some(words) = stepped.words {
+            self.counts.count_words(coming.line, frame.function, words)?;
             self.follow(coming, frame.function)?;
         }
-        if !goes_on {
+        if !stepped.goes_on {
             let line = coming.line;
             self.last = Some(LastPlace { line, frame });
         }
-        Ok(goes_on)
+        Ok(stepped.goes_on)
     }
 
     /// Keeps the state of the run, which is the last before its end.

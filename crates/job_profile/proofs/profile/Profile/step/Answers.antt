@@ -4,7 +4,7 @@ use Rattle.std.specs.Prelude.{nat_lt}
 use Rattle.job_steps.specs.Runs.{executed_count_in}
 use Rattle.job_profile.specs.declared.coming.Coming.{Coming}
 use Rattle.job_profile.specs.Walks.{progress_of}
-use Rattle.job_profile.proofs.Counted.{counts, fits, line_coming, of_new, stays}
+use Rattle.job_profile.proofs.Counted.{counts, executes, fits, line_coming, of_new, stays}
 use Rattle.job_profile.proofs.profile.Profile.step.Goals as goal
 
 pub demand_by-most-requires : goal.demand_by-most-requires
@@ -48,3 +48,16 @@ invariant_of-self-2 g c =
     c.count.ensures (c.note_peak.ensures ∙ (λ i. cond (nat_lt (peak i) (next i)) (after i) c.self.inside.peak_after))
     (λ more. asked (sym (ap executed_count_in come.progress_is) ∙ more)) (rw shown at c.held-least.ensures)
     (rw shown at c.coming-self-inside.ensures))
+
+pub returns-clause-words : goal.returns-clause-words
+returns-clause-words g c =
+    let come = c.step-goes_on.ensures.run in
+    let seen = c.run-run.ensures in
+    let before = rw seen at c.executed-executed.ensures in
+    let after = rw c.run-run-2.ensures at c.executed-now.ensures in
+    let asked = rw seen at c.demand_by-most.ensures.executed in
+    let more =
+    (executes c.self.invariant (c.steps_move.ensures _ _ _ c.self.invariant.on_run come.progress_is) c.grow.ensures.same
+    (λ e. c.if-now-executed.false (after ∙ e ∙ sym before))).executed in
+    let words = asked (sym (ap executed_count_in come.progress_is) ∙ more) in
+    (rw c.self.view_is at more, rw c.self.view_is at words)
