@@ -217,8 +217,9 @@ def wanted_words(lines: list[str], is_signature: bool) -> str:
         return word if "an instruction" in expected else ""
     if "INT" not in expected or word in KINDS_LEFT_OUT:
         return word if "INT" in expected else ""
-    # The word before it may be on an earlier line of those that are shown, and the end of a comment before that.
+    # The word before it may be on an earlier line of those that are shown, and the end of a comment before that. A
+    # parenthesis is a word.
     text = re.sub(r"\{[^}]*\}?", " ", "\n".join(line[10:] for line in [*lines[: place - 1], lines[place - 1][:begin]]))
-    before = re.split(r"[\s}]+", text.rstrip())[-1]
+    before = re.split(r"[\s()}]+", text.rstrip())[-1]
     is_left_out = word == "SEGDES" if before == "CONST" else word == "BOOL" and before in COMPARISONS
     return f"{before} {word}" if is_left_out else ""
