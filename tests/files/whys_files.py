@@ -25,6 +25,11 @@ NAMES = [
      "error: invalid value '\\u{1b}]0;t\\u{7}' for '--job <K>': invalid digit found in string"
      + HINT, 2),
     ([b"x", b"bad\xff"], "error: argument 2 is no UTF-8: bad\\xff" + USAGE, 2),
+    # The first that is none is named.
+    ([b"-", b"\x1b[31m\xe2\x82", b"\xff"], "error: argument 2 is no UTF-8: \\u{1b}[31m\\xe2\\x82" + USAGE, 2),
+    # A long one, and an empty one.
+    ([b"/none/" * 100], "vjobs-why: " + "/none/" * 100 + ": No such file or directory (os error 2)\n", 3),
+    ([b""], "vjobs-why: : No such file or directory (os error 2)\n", 3),
     ([b"docs"], "vjobs-why: docs: it is no regular file\n", 3),
     ([b"/dev/null"], "vjobs-why: /dev/null: it is no regular file\n", 3),
     ([b"--html", b"/dev/full", bytes(BATCH)], "vjobs-why: /dev/full: it is no regular file\n", 3),

@@ -17,8 +17,6 @@ use ucd_derived::is_default_ignorable_code_point;
 mod argument;
 pub mod laws;
 mod lines;
-#[cfg(test)]
-mod tests;
 
 pub use argument::{ArgumentFault, arguments};
 pub use lines::{has_shown_lines, shown_lines};

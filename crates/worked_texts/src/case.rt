@@ -7,8 +7,10 @@ use crate::show::{
     kinds_text, lines_text, program_text, shortened, signatures_text, verified_text,
 };
 use kind_finder::{MOST_ENTRIES, find_signatures};
+use shown_text::{shown, shown_lines};
 use signatures::Signatures;
 use std::alloc::Global;
+use std::str;
 use vcode_reader::Program;
 use vcode_reader::laws::equal_programs;
 use verifier::laws::equal_verified;
@@ -27,6 +29,8 @@ pub fn answer(alloc: Global, line: &str) -> Result<String, CaseFault> {
         "same" => same(alloc, text),
         "find" => find(alloc, text, MOST_ENTRIES),
         "within" => within(alloc, text),
+        "shown" => Ok(shown(alloc, &bytes_of(alloc, text)?)?),
+        "lines" => lines(alloc, text),
         _ => Err(CaseFault::NoCase),
     }
 }
@@ -105,6 +109,18 @@ fn within(alloc: Global, text: &str) -> Result<String, CaseFault> {
     match most_entries.parse() {
         Ok(most_entries) => find(alloc, code, most_entries),
         Err(_) => Err(CaseFault::NoCase),
+    }
+}
+
+/// How a terminal is to show a text of lines.
+fn lines(alloc: Global, text: &str) -> Result<String, CaseFault> {
+    let bytes = bytes_of(alloc, text)?;
+    let text = str::from_utf8(&bytes).map_err(|_| CaseFault::NoCase)?;
+    let lines = shown_lines(alloc, String::from_str(alloc, text)?)?;
+    if lines.as_str() == text {
+        Ok(String::from_str(alloc, "as it is")?)
+    } else {
+        Ok(lines)
     }
 }
 

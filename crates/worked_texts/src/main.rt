@@ -15,6 +15,8 @@
 //! | `same` | signatures, `\|`, signatures, `\|`, code | whether the code is verified alike by both |
 //! | `find` | code | the signatures that are found for it, or why there are none |
 //! | `within` | a number, `\|`, code | the same, with stacks of at most that many entries |
+//! | `shown` | bytes | how they are shown on one line |
+//! | `lines` | a text of lines | how a terminal is to show it, or `as it is` |
 //!
 //! Each code and each text of signatures is read at once, and in pieces of 1 and of 7 bytes: if these
 //! give something else, the answer is `otherwise in pieces`. The code of `find` and `within` is read once.
