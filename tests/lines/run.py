@@ -1,8 +1,8 @@
 """Tests the command line of vjobs: python3 tests/lines/run.py [PROGRAM], which .ci/lines calls
 
 PROGRAM is the path of vjobs; without it the program that the gate built is taken, and if there is none, a line says
-that the tests are skipped. They read which lines it takes and refuses, and by what text, how many threads run jobs, the
-texts of faults, and what it says of batches that are too long or have no end. Each allocation of a call is refused in
+that the tests are skipped. They read which lines it takes and refuses, and by what text, that each example has one
+report, how many threads run jobs, the texts of faults, and what it says of batches that are too long or have no end. Each allocation of a call is refused in
 turn, if there is a C compiler. models/attacks.py has odd names at each place where a message quotes them."""
 from __future__ import annotations
 
@@ -99,8 +99,15 @@ HELP = ("Usage: vjobs [OPTIONS] <FILE>\n", "--region <N>", "--workers <W>", "--l
 # Options, and the threads that run long jobs at the same time: the workers beside the calling thread, or the lanes.
 THREADS: list[tuple[list[str], int]] = [
     ([], 5), (["--workers", "1"], 1), (["--workers", "2"], 3), (["--workers", "16"], 17),
-    (["--lanes", "2"], 2), (["--lanes", "16"], 16), (["--lanes", "2", "--workers", "16"], 2),
+    (["--lanes", "2"], 2), (["--lanes", "16"], 16), (["--lanes", "2", "--workers", "16"], 2), (["--schedule", "1"], 1),
 ]
+
+# Options by which each example has the same report.
+WAYS: list[list[str]] = [
+    *[["--workers", it] for it in ("1", "2", "3", "8", "16")], *[["--lanes", it] for it in ("2", "3", "16")],
+    *[["--schedule", it] for it in ("1,2,3", "b5,1,f5", "12,11,10")],
+]
+EXAMPLES = sorted((HERE.parents[1] / "examples").glob("*.report"))
 
 
 def ended(program: Path, words: list[str], text: str, folder: str, name: str = "vjobs") -> Ended:
@@ -128,6 +135,15 @@ def lines(program: Path, folder: str) -> Iterator[str]:
         yield f"--help: exit {status}, {errors!r}, {out!r}"
     if not out.endswith("  vjobs --lanes 4 batch.vcode\n"):
         yield f"--help ends with {out[-60:]!r}"
+
+
+def reports(program: Path, folder: str) -> Iterator[str]:
+    """Each number of workers and of lanes and each schedule gives the same report."""
+    for words in WAYS:
+        for report in EXAMPLES:
+            found, errors, _ = ended(program, [*words, str(report.with_suffix(".vcode"))], "", folder)
+            if (found, errors) != (report.read_text(), ""):
+                yield f"{words} of {report.stem}: {errors!r}, {found[:200]!r}"
 
 
 def is_plain(text: str) -> bool:
@@ -227,8 +243,8 @@ def main() -> None:
         for name in ("batch.vcode", "-a\x1b\n\\"):
             (Path(folder) / name).write_text(SMALL)
         (Path(folder) / "long.vcode").write_text(long_jobs())
-        found = [it for part in (lines, endless, writing, threads, memory) for it in part(program, folder)]
-    print(*found, f"lines: {len(CASES) + len(REFUSED) + len(THREADS) + 9} runs, {len(found)} differ", sep="\n")
+        found = [it for part in (lines, reports, endless, writing, threads, memory) for it in part(program, folder)]
+    print(*found, f"lines: {len(CASES) + len(REFUSED) + len(THREADS) + len(WAYS) * len(EXAMPLES) + 9} runs, {len(found)} differ", sep="\n")
     sys.exit(bool(found))
 
 

@@ -2,7 +2,7 @@
 
 use crate::machines::{REGION, machine};
 use job_machine::Machine;
-use std::alloc::{AllocError, Global};
+use std::alloc::Global;
 use std::test::Fail;
 use test_support::TWELVE_JOBS;
 
@@ -27,22 +27,13 @@ pub const DIVISION_WORDS: usize = 160_000;
 /// The instructions that each executes: four to make the vector, four for each division, and two to end.
 pub const EXECUTED_BY_DIVISIONS: [u64; 2] = [22, 22];
 
-/// The twelve jobs after this line.
-///
-/// # Errors
-///
-/// [`AllocError`] if memory for the text was refused.
-pub(crate) fn twelve_jobs_by(alloc: Global, rule_line: &str) -> Result<String, AllocError> {
-    format!(in alloc; "{rule_line}{TWELVE_JOBS}")
-}
-
 /// A machine of the twelve jobs after this line.
 ///
 /// # Errors
 ///
 /// An error if memory was refused.
 pub(crate) fn machine_of_twelve(alloc: Global, rule_line: &str) -> Result<Machine<Global>, Fail> {
-    let batch = twelve_jobs_by(alloc, rule_line)?;
+    let batch = format!(in alloc; "{rule_line}{TWELVE_JOBS}")?;
     machine(alloc, batch.as_bytes(), REGION)
 }
 

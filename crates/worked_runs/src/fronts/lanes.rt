@@ -1,18 +1,11 @@
 //! Jobs that run by themselves, on lanes.
 
-use crate::fronts::batches::{
-    EXECUTED_BY_THE_SECOND_RULE, EXECUTED_BY_TWELVE, EXECUTED_BY_TWO, SECOND_RULE,
-    machine_of_twelve,
-};
-use crate::fronts::runs::have_executed;
+use crate::fronts::batches::{EXECUTED_BY_TWO, SECOND_RULE, machine_of_twelve};
 use crate::machines::{REGION, machine};
-use job_lanes::run_lanes;
 use job_machine::{EndedJob, Lane, Machine, Status};
 use std::alloc::Global;
 use std::process::Abort;
-use std::sync::Wait;
 use std::test::Fail;
-use std::thread::Threads;
 use test_support::TWO_JOBS;
 
 /// A job of a lane, run on it. The lane goes.
@@ -85,32 +78,4 @@ fn a_machine_takes_over_no_end_of_another_job(rt: HostRuntime) -> Result<(), Fai
     let tried = another_end_is_left(&rt, rt.alloc(), &mut machine);
     drop(machine);
     tried
-}
-
-/// The jobs of a batch of twelve, run on this number of lanes, have executed these numbers of instructions.
-fn lanes_execute<R>(
-    rt: &R,
-    alloc: Global,
-    rule_line: &str,
-    lanes: usize,
-    executed: &[u64],
-) -> Result<(), Fail>
-where
-    R: Abort + Threads + Wait + Sync,
-{
-    let machine = machine_of_twelve(alloc, rule_line)?;
-    let machine = run_lanes(rt, alloc, machine, REGION, lanes)?;
-    have_executed(rt, &machine, executed);
-    drop(machine);
-    Ok(())
-}
-
-#[test]
-fn each_number_of_lanes_executes_the_same(rt: HostRuntime) -> Result<(), Fail> {
-    for lanes in [1, 2, 16] {
-        lanes_execute(&rt, rt.alloc(), "", lanes, &EXECUTED_BY_TWELVE)?;
-        let by_second = &EXECUTED_BY_THE_SECOND_RULE;
-        lanes_execute(&rt, rt.alloc(), SECOND_RULE, lanes, by_second)?;
-    }
-    Ok(())
 }

@@ -40,7 +40,7 @@ where
 }
 
 /// Each job of a machine is collected and has executed its number of instructions.
-pub(crate) fn have_executed(rt: &impl Abort, machine: &Machine<Global>, executed: &[u64]) {
+fn have_executed(rt: &impl Abort, machine: &Machine<Global>, executed: &[u64]) {
     let mut job = 0usize;
     for count in executed {
         job = job.wrapping_add(1);
