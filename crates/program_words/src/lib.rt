@@ -1,8 +1,8 @@
 //! The words of a program's command line, and what is printed if they aren't a line that the program runs.
 //!
-//! A program gives its words to clap. clap quotes them in its texts as they are, and a stranger may have chosen them,
-//! for instance as names of files. So a program prints no text of clap itself. If clap gives no matches, [`help_of`]
-//! gives the text that is to be printed: it lets clap read the words once more, each as it may be shown.
+//! [`line_of`] lets clap read a program's words. clap quotes them in its texts as they are, and a stranger may have
+//! chosen them, for instance as names of files. So a program prints no text of clap itself. If clap gives no matches,
+//! [`help_of`] gives the text that is to be printed: it lets clap read the words once more, each as it may be shown.
 #![tactic(auto)]
 
 ghost use Rattle.std.specs.Prelude.{◌≡◌, ◌⊎◌, IfOk, IfErr, Err, MatchResult, string_bytes};
@@ -12,20 +12,60 @@ ghost use Rattle.shown_text.specs.Lines.{HasShownLines};
 ghost use Rattle.program_words.specs.declared.fault.WordsFault.TheVariants.{Memory};
 ghost use Rattle.program_words.specs.Faults.{SaysShownLines, exit_of};
 
+mod arguments;
 mod fault;
+mod line;
 
+pub use arguments::Arguments;
 use clap::error::ErrorKind;
-use clap::{ArgMatches, Command};
+use clap::{Arg, ArgMatches, Command};
 pub use fault::WordsFault;
+pub use line::{Asking, Line, line_of};
 use shown_text::{ArgumentFault, arguments, shown, shown_lines};
 use std::alloc::{AllocError, AllocGlobal, Global};
 use std::io::{Eprint, Print};
 use std::rt::Env;
 
+/// The version of the programs.
+const VERSION: &str = "0.1.0";
+
 /// A program whose words clap reads.
 pub trait Program {
-    /// The command by which it reads them.
-    fn command<'a>(alloc: Global) -> Result<Command<'a>, clap::Error>;
+    /// Its name in its texts, by whatever name it was called.
+    const NAME: &'static str;
+
+    /// Its command, with what help says of the program.
+    fn described<'a>(command: Command<'a>) -> Command<'a>;
+
+    /// Adds the arguments that it takes, in the order in which help has them.
+    ///
+    /// # Errors
+    ///
+    /// [`AllocError`] if memory was refused.
+    fn add_arguments<'a>(arguments: &mut Arguments<'a>) -> Result<(), AllocError>;
+}
+
+/// The arguments that a program takes.
+fn arguments_of<'a, P: Program>(alloc: Global) -> Result<Vec<Arg<'a>>, AllocError> {
+    let mut arguments = Arguments::new(alloc);
+    P::add_arguments(&mut arguments)?;
+    Ok(arguments.into_list())
+}
+
+/// The command of this name, in the version that all programs have, that takes these arguments.
+fn command_with<'a>(
+    alloc: Global,
+    name: &'a str,
+    arguments: Vec<Arg<'a>>,
+) -> Result<Command<'a>, clap::Error> {
+    let command = Command::new(alloc, name).args(arguments)?;
+    Ok(command.version(VERSION).bin_name(name)?)
+}
+
+/// The command by which clap reads the words of a program.
+fn command_of<'a, P: Program>(alloc: Global) -> Result<Command<'a>, clap::Error> {
+    let arguments = arguments_of::<P>(alloc)?;
+    Ok(P::described(command_with(alloc, P::NAME, arguments)?))
 }
 
 /// What clap matches of words.
@@ -37,7 +77,7 @@ pub fn matches_of<'a, P: Program>(
     alloc: Global,
     words: &'a [String],
 ) -> Result<ArgMatches<'a>, clap::Error> {
-    P::command(alloc)?.try_get_matches_from(words)
+    command_of::<P>(alloc)?.try_get_matches_from(words)
 }
 
 /// The text of an error of clap, as it may be printed.
@@ -116,13 +156,17 @@ pub fn help_of<P: Program>(
     Ok(text_of(alloc, error)?)
 }
 
+/// The error by which a command refuses a word for this reason.
+fn error_of(mut command: Command<'_>, reason: &str) -> Result<clap::Error, AllocError> {
+    command.error(ErrorKind::ValueValidation, reason)
+}
+
 /// The refusal of an argument that is no text, as clap says it.
 fn not_text<P: Program>(alloc: Global, fault: &ArgumentFault) -> Result<WordsFault, clap::Error>
     ensures { IfOk result SaysShownLines }
 {
-    let message = format!(in alloc; "{fault}")?;
-    let mut command = P::command(alloc)?;
-    let error = command.error(ErrorKind::ValueValidation, message.as_str())?;
+    let reason = format!(in alloc; "{fault}")?;
+    let error = error_of(command_of::<P>(alloc)?, reason.as_str())?;
     Ok(refusal_by(alloc, &error))
 }
 

@@ -4,22 +4,16 @@
 mod command;
 mod serving;
 
-use command::{Line, NAME, VjobsDap, read_line};
+use command::{NAME, VjobsDap};
 use dap_messages::{Input, Sender};
 use dap_session::with_session;
-use program_words::{WordsFault, print_fault, print_help, words_of};
+use program_words::{Line, line_of, print_fault, print_help};
 use serving::{Failure, serve};
 use std::alloc::AllocGlobal;
 use std::io::{Read, Write};
 use std::process::ExitCode;
 use std::rt::Files;
 use std::thread::Threads;
-
-/// Reads the command line.
-fn line_of(rt: &HostRuntime) -> Result<Line, WordsFault> {
-    let words = words_of::<VjobsDap, HostRuntime>(rt)?;
-    read_line(rt.alloc(), &words)
-}
 
 /// Serves a client that writes what a reader gives, and reads what a writer takes.
 fn serve_client<H, R, W>(rt: &H, reader: R, writer: W) -> Result<(), Failure>
@@ -48,8 +42,8 @@ fn status_of(rt: &HostRuntime, served: &Result<(), Failure>) -> u8 {
 }
 
 fn main(rt: HostRuntime) -> ExitCode {
-    let status = match line_of(&rt) {
-        Ok(Line::Serve) => status_of(&rt, &serve_client(&rt, rt.stdin(), rt.stdout())),
+    let status = match line_of::<VjobsDap, HostRuntime>(&rt) {
+        Ok(Line::Run(())) => status_of(&rt, &serve_client(&rt, rt.stdin(), rt.stdout())),
         Ok(Line::Help(text)) => print_help(&rt, NAME, text.as_str()),
         Err(fault) => print_fault(&rt, NAME, &fault),
     };

@@ -9,10 +9,10 @@ mod command;
 mod fault;
 
 use batch::{Filled, fill_signatures};
-use command::{Asked, Form, Line, VjobsKinds, read_line};
+use command::{Asked, Form, VjobsKinds};
 use fault::Fault;
 use kind_finder::{FindFault, find_signatures};
-use program_words::words_of;
+use program_words::{Line, line_of};
 use std::fs::{self, File};
 use std::io::{self, ErrorKind, Read, Write};
 use std::process::ExitCode;
@@ -84,10 +84,9 @@ fn write_batch(rt: &HostRuntime, asked: &Asked) -> Result<(), Fault> {
 
 /// Does what the command line asks for.
 fn run(rt: &HostRuntime) -> Result<(), Fault> {
-    let words = words_of::<VjobsKinds, HostRuntime>(rt)?;
-    match read_line(rt.alloc(), &words)? {
+    match line_of::<VjobsKinds, HostRuntime>(rt)? {
         Line::Help(text) => write(rt, text.as_bytes()),
-        Line::Find(asked) => match asked.form {
+        Line::Run(asked) => match asked.form {
             Form::Code => write(rt, &signatures_of(rt, &asked)?),
             Form::Batch => write_batch(rt, &asked),
         },

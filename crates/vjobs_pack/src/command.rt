@@ -1,12 +1,9 @@
 //! The command line.
 
-use clap::{Arg, ArgAction, ArgMatches, Command, value_parser};
-use program_words::{Program, WordsFault, help_of, matches_of};
+use clap::{Arg, ArgAction, ArgMatches, Command};
+use program_words::{Arguments, Asking, Program, WordsFault};
 use std::alloc::{AllocError, Global};
 use vcode_base::limits::{MOST_BATCH_BYTES, MOST_WORDS};
-
-/// The name of the program in its texts, by whatever name it was called.
-const NAME: &str = "vjobs-pack";
 
 /// What a file may have at most.
 #[derive(Clone, Copy, Drop)]
@@ -32,15 +29,6 @@ pub struct Asked {
     pub files: Vec<String>,
 }
 
-/// What a command line asks for.
-#[derive(Drop)]
-pub enum Line {
-    /// To pack files.
-    Pack(Asked),
-    /// The text of help or of the version, to be printed.
-    Help(String),
-}
-
 /// The most words of a region.
 const MOST_REGION: u32 = MOST_WORDS as u32;
 
@@ -56,35 +44,6 @@ fn out_option<'a>(alloc: Global) -> Arg<'a> {
         .help("The folder of the batches and their manifests")
 }
 
-/// The option for the words of the region.
-fn region_option<'a>(alloc: Global) -> Arg<'a> {
-    Arg::new(alloc, "region")
-        .long("region")
-        .value_name("N")
-        .value_parser(value_parser!(u32).range(1..=i64::from(MOST_REGION)))
-        .default_value("1048576")
-        .help("Words of the region that the batches are to run in")
-}
-
-/// The option for the most bytes of a file.
-fn most_bytes_option<'a>(alloc: Global) -> Arg<'a> {
-    Arg::new(alloc, "most-bytes")
-        .long("most-bytes")
-        .value_name("N")
-        .value_parser(value_parser!(u32).range(1..=i64::from(MOST_FILE_BYTES)))
-        .default_value("16777216")
-        .help("Bytes of the longest file that is packed")
-}
-
-/// The option for the entries of a stack.
-fn most_entries_option<'a>(alloc: Global) -> Arg<'a> {
-    Arg::new(alloc, "most-entries")
-        .long("most-entries")
-        .value_name("N")
-        .value_parser(value_parser!(u32).range(0..=i64::from(u32::MAX)))
-        .help("Most entries of a function's stack; no bound if it isn't given")
-}
-
 /// The option for a list of files.
 fn list_option<'a>(alloc: Global) -> Arg<'a> {
     Arg::new(alloc, "list")
@@ -94,7 +53,7 @@ fn list_option<'a>(alloc: Global) -> Arg<'a> {
 }
 
 /// The files.
-fn file_argument<'a>(alloc: Global) -> Arg<'a> {
+fn file_arguments<'a>(alloc: Global) -> Arg<'a> {
     Arg::new(alloc, "file")
         .value_name("FILE")
         .num_args(0..)
@@ -106,24 +65,53 @@ fn file_argument<'a>(alloc: Global) -> Arg<'a> {
 pub struct VjobsPack;
 
 impl Program for VjobsPack {
-    fn command<'a>(alloc: Global) -> Result<Command<'a>, clap::Error> {
-        Ok(
-            Command::new(alloc, NAME)
-                .bin_name(NAME)?
-                .about("Packs files of one VCODE job each into batches, each with a manifest")
-                .version("0.1.0")
-                .arg(out_option(alloc))?
-                .arg(region_option(alloc))?
-                .arg(most_bytes_option(alloc))?
-                .arg(most_entries_option(alloc))?
-                .arg(list_option(alloc))?
-                .arg(file_argument(alloc))?,
-        )
+    const NAME: &'static str = "vjobs-pack";
+
+    fn described<'a>(command: Command<'a>) -> Command<'a> {
+        command.about("Packs files of one VCODE job each into batches, each with a manifest")
+    }
+
+    fn add_arguments<'a>(arguments: &mut Arguments<'a>) -> Result<(), AllocError> {
+        arguments.add(out_option(arguments.alloc()))?;
+        let region = "Words of the region that the batches are to run in";
+        let words = 1..=i64::from(MOST_REGION);
+        arguments.number("region", "N", words, Some("1048576"), region)?;
+        let most = "Bytes of the longest file that is packed";
+        let bytes = 1..=i64::from(MOST_FILE_BYTES);
+        arguments.number("most-bytes", "N", bytes, Some("16777216"), most)?;
+        let stack = "Most entries of a function's stack; no bound if it isn't given";
+        arguments.number("most-entries", "N", 0..=i64::from(u32::MAX), None, stack)?;
+        arguments.add(list_option(arguments.alloc()))?;
+        arguments.add(file_arguments(arguments.alloc()))
     }
 }
 
-/// What was matched.
-fn asked_of(alloc: Global, matches: &ArgMatches<'_>) -> Result<Asked, AllocError> {
+impl Asking for VjobsPack {
+    type Asked = Asked;
+
+    fn asked_of(alloc: Global, matches: &ArgMatches<'_>) -> Result<Asked, WordsFault> {
+        let files = files_of(alloc, matches)?;
+        Ok(asked_over(alloc, matches, files)?)
+    }
+}
+
+/// The names of the files that were matched.
+fn files_of(alloc: Global, matches: &ArgMatches<'_>) -> Result<Vec<String>, AllocError> {
+    let mut files = Vec::new(alloc);
+    if let Some(names) = matches.get_strs("file") {
+        for name in names {
+            files.push(String::from_str(alloc, name)?)?;
+        }
+    }
+    Ok(files)
+}
+
+/// What was matched, over these files.
+fn asked_over(
+    alloc: Global,
+    matches: &ArgMatches<'_>,
+    files: Vec<String>,
+) -> Result<Asked, AllocError> {
     let region = matches.get_one::<u32>("region").unwrap_or(MOST_REGION);
     let bytes = matches
         .get_one::<u32>("most-bytes")
@@ -134,12 +122,6 @@ fn asked_of(alloc: Global, matches: &ArgMatches<'_>) -> Result<Asked, AllocError
         Some(list) => Some(String::from_str(alloc, list)?),
         None => None,
     };
-    let mut files = Vec::new(alloc);
-    if let Some(names) = matches.get_strs("file") {
-        for name in names {
-            files.push(String::from_str(alloc, name)?)?;
-        }
-    }
     Ok(Asked {
         out,
         region,
@@ -147,12 +129,4 @@ fn asked_of(alloc: Global, matches: &ArgMatches<'_>) -> Result<Asked, AllocError
         list,
         files,
     })
-}
-
-/// Reads a command line, the program's name first.
-pub fn read_line(alloc: Global, words: &[String]) -> Result<Line, WordsFault> {
-    match matches_of::<VjobsPack>(alloc, words) {
-        Ok(matches) => Ok(Line::Pack(asked_of(alloc, &matches)?)),
-        Err(error) => Ok(Line::Help(help_of::<VjobsPack>(alloc, &error, words)?)),
-    }
 }

@@ -8,23 +8,17 @@ mod folder;
 mod packing;
 mod second;
 
-use command::{Asked, Line, VjobsPack, read_line};
+use command::{Asked, VjobsPack};
 use fault::{Stop, stop_at, stop_by};
 use folder::batch_in;
 use packing::Packing;
-use program_words::{WordsFault, print_fault, print_help, words_of};
+use program_words::{Line, line_of, print_fault, print_help};
 use std::process::ExitCode;
 use std::str;
 use whole_files::{read_regular, read_up_to};
 
 /// The most bytes of a list of names.
 const MOST_LIST_BYTES: usize = 16_777_216;
-
-/// Reads the command line.
-fn line_of(rt: &HostRuntime) -> Result<Line, WordsFault> {
-    let words = words_of::<VjobsPack, HostRuntime>(rt)?;
-    read_line(rt.alloc(), &words)
-}
 
 /// The bytes of a list of names; `-` is standard input.
 fn read_list(rt: &HostRuntime, list: &str) -> Result<Vec<u8>, Stop> {
@@ -107,8 +101,8 @@ fn stopped(rt: &HostRuntime, stop: &Stop) -> u8 {
 }
 
 fn main(rt: HostRuntime) -> ExitCode {
-    let status = match line_of(&rt) {
-        Ok(Line::Pack(asked)) => match pack_all(&rt, &asked) {
+    let status = match line_of::<VjobsPack, HostRuntime>(&rt) {
+        Ok(Line::Run(asked)) => match pack_all(&rt, &asked) {
             Ok(true) => 0,
             Ok(false) => 1,
             Err(stop) => stopped(&rt, &stop),

@@ -1,11 +1,8 @@
 //! The command line.
 
 use clap::{Arg, ArgAction, ArgMatches, Command};
-use program_words::{Program, WordsFault, help_of, matches_of};
+use program_words::{Arguments, Asking, Program, WordsFault};
 use std::alloc::{AllocError, Global};
-
-/// The name of the program in its texts, by whatever name it was called.
-const NAME: &str = "vjobs-split";
 
 /// Where the reports go.
 #[derive(Drop)]
@@ -27,15 +24,6 @@ pub struct Asked {
     pub with_batch: bool,
 }
 
-/// What a command line asks for.
-#[derive(Drop)]
-pub enum Line {
-    /// To split a report.
-    Split(Asked),
-    /// The text of help or of the version, to be printed.
-    Help(String),
-}
-
 /// The option for the folder of the reports.
 fn out_option<'a>(alloc: Global) -> Result<Arg<'a>, AllocError> {
     Arg::new(alloc, "out")
@@ -54,58 +42,39 @@ fn beside_option<'a>(alloc: Global) -> Result<Arg<'a>, AllocError> {
         .conflicts_with("out")
 }
 
-/// The option that leaves the batch out.
-fn without_batch_option<'a>(alloc: Global) -> Arg<'a> {
-    Arg::new(alloc, "without-batch")
-        .long("without-batch")
-        .action(ArgAction::SetTrue)
-        .help("Don't look whether the batch is the one that the manifest names")
-}
-
-/// The manifest.
-fn manifest_argument<'a>(alloc: Global) -> Arg<'a> {
-    Arg::new(alloc, "manifest")
-        .value_name("MANIFEST")
-        .required(true)
-        .help("The manifest of the batch; its report is read from standard input")
-}
-
 /// The program whose words these are.
 pub struct VjobsSplit;
 
 impl Program for VjobsSplit {
-    fn command<'a>(alloc: Global) -> Result<Command<'a>, clap::Error> {
-        Ok(
-            Command::new(alloc, NAME)
-                .bin_name(NAME)?
-                .about("Gives each packed file the report of its job")
-                .version("0.1.0")
-                .arg(out_option(alloc)?)?
-                .arg(beside_option(alloc)?)?
-                .arg(without_batch_option(alloc))?
-                .arg(manifest_argument(alloc))?,
-        )
+    const NAME: &'static str = "vjobs-split";
+
+    fn described<'a>(command: Command<'a>) -> Command<'a> {
+        command.about("Gives each packed file the report of its job")
+    }
+
+    fn add_arguments<'a>(arguments: &mut Arguments<'a>) -> Result<(), AllocError> {
+        arguments.add(out_option(arguments.alloc())?)?;
+        arguments.add(beside_option(arguments.alloc())?)?;
+        let without = "Don't look whether the batch is the one that the manifest names";
+        arguments.flag("without-batch", without)?;
+        let manifest = "The manifest of the batch; its report is read from standard input";
+        arguments.file("MANIFEST", manifest)
     }
 }
 
-/// What was matched.
-fn asked_of(alloc: Global, matches: &ArgMatches<'_>) -> Result<Asked, AllocError> {
-    let manifest = String::from_str(alloc, matches.get_str("manifest").unwrap_or(""))?;
-    let target = match matches.get_str("out") {
-        Some(folder) => Target::Folder(String::from_str(alloc, folder)?),
-        None => Target::Beside,
-    };
-    Ok(Asked {
-        manifest,
-        target,
-        with_batch: !matches.get_flag("without-batch"),
-    })
-}
+impl Asking for VjobsSplit {
+    type Asked = Asked;
 
-/// Reads a command line, the program's name first.
-pub fn read_line(alloc: Global, words: &[String]) -> Result<Line, WordsFault> {
-    match matches_of::<VjobsSplit>(alloc, words) {
-        Ok(matches) => Ok(Line::Split(asked_of(alloc, &matches)?)),
-        Err(error) => Ok(Line::Help(help_of::<VjobsSplit>(alloc, &error, words)?)),
+    fn asked_of(alloc: Global, matches: &ArgMatches<'_>) -> Result<Asked, WordsFault> {
+        let manifest = String::from_str(alloc, matches.get_str("file").unwrap_or(""))?;
+        let target = match matches.get_str("out") {
+            Some(folder) => Target::Folder(String::from_str(alloc, folder)?),
+            None => Target::Beside,
+        };
+        Ok(Asked {
+            manifest,
+            target,
+            with_batch: !matches.get_flag("without-batch"),
+        })
     }
 }

@@ -9,10 +9,10 @@ mod packed;
 mod report;
 
 use batch::{batch_name, check_batch};
-use command::{Asked, Line, Target, VjobsSplit, read_line};
+use command::{Asked, Target, VjobsSplit};
 use delivery::{check_folder, deliver};
 use fault::{Stop, stop_at};
-use program_words::{WordsFault, print_fault, print_help, words_of};
+use program_words::{Line, line_of, print_fault, print_help};
 use report::check_report;
 use report_splitter::{Manifest, ManifestFault, read_manifest};
 use shown_text::named;
@@ -22,12 +22,6 @@ use whole_files::{read_regular, read_up_to};
 
 /// The most bytes of a manifest.
 const MOST_MANIFEST_BYTES: usize = 16_777_216;
-
-/// Reads the command line.
-fn line_of(rt: &HostRuntime) -> Result<Line, WordsFault> {
-    let words = words_of::<VjobsSplit, HostRuntime>(rt)?;
-    read_line(rt.alloc(), &words)
-}
 
 /// The bytes of the manifest at a path.
 fn manifest_bytes(rt: &HostRuntime, path: &str) -> Result<Vec<u8>, Stop> {
@@ -101,8 +95,8 @@ fn stopped(rt: &HostRuntime, stop: &Stop) -> u8 {
 }
 
 fn main(rt: HostRuntime) -> ExitCode {
-    let status = match line_of(&rt) {
-        Ok(Line::Split(asked)) => match run(&rt, &asked) {
+    let status = match line_of::<VjobsSplit, HostRuntime>(&rt) {
+        Ok(Line::Run(asked)) => match run(&rt, &asked) {
             Ok(true) => 0,
             Ok(false) => 1,
             Err(stop) => stopped(&rt, &stop),

@@ -17,20 +17,14 @@ use failure::Failure;
 use files::{read_batch, write_text};
 use job_steps::Job;
 use look::show;
-use program_words::{WordsFault, print_fault, words_of};
+use program_words::{Line, line_of, print_fault};
 use refusal_notes::{Lines, batch_of, batch_refusal, refusal};
 use std::alloc::{AllocError, Global};
 use std::io;
 use std::process::ExitCode;
-use why_command::{Asked, Form, Line, Look, Object, VjobsWhy, read_line};
+use why_command::{Asked, Form, Look, Object, VjobsWhy};
 use why_data::{batch_refusal_object, object_of, refusal_object, state_object};
 use why_page::page_of;
-
-/// Reads the command line.
-fn line_of(rt: &HostRuntime) -> Result<Line, WordsFault> {
-    let words = words_of::<VjobsWhy, HostRuntime>(rt)?;
-    read_line(rt.alloc(), &words)
-}
 
 /// Prints why the job at a place of the batch, which has this name, is refused.
 fn print_refusal(
@@ -297,9 +291,9 @@ fn print_failure(rt: &HostRuntime, failure: &Failure) -> u8 {
 }
 
 /// Does what the command line asks for. Answers the exit status.
-fn run(rt: &HostRuntime, line: Line) -> Result<u8, Failure> {
+fn run(rt: &HostRuntime, line: Line<Asked>) -> Result<u8, Failure> {
     match line {
-        Line::Show(asked) => show_asked(rt, &asked),
+        Line::Run(asked) => show_asked(rt, &asked),
         Line::Help(text) => {
             write_text(rt, "-", text.as_str())?;
             Ok(0)
@@ -308,7 +302,7 @@ fn run(rt: &HostRuntime, line: Line) -> Result<u8, Failure> {
 }
 
 fn main(rt: HostRuntime) -> ExitCode {
-    let status = match line_of(&rt) {
+    let status = match line_of::<VjobsWhy, HostRuntime>(&rt) {
         Ok(line) => match run(&rt, line) {
             Ok(status) => status,
             Err(failure) => print_failure(&rt, &failure),

@@ -2,14 +2,11 @@
 
 use crate::selection::{Selection, line_range};
 use clap::parser::ValueSource;
-use clap::{Arg, ArgAction, ArgMatches, Command, value_parser};
+use clap::{Arg, ArgMatches, Command};
 use job_looks::{Part, Sought, State, place_sought, state_sought, value_range};
-use program_words::{Program, WordsFault, help_of, matches_of};
+use program_words::{Arguments, Asking, Program, WordsFault};
 use std::alloc::{AllocError, Global};
 use vcode_base::limits::MOST_BUDGET;
-
-/// The name of the program in its texts, by whatever name it was called.
-const NAME: &str = "vjobs-why";
 
 /// What is to be shown of a job on a terminal.
 #[derive(Drop)]
@@ -68,15 +65,6 @@ pub struct Asked {
     pub tries_least: bool,
 }
 
-/// What a command line asks for.
-#[derive(Drop)]
-pub enum Line {
-    /// To show jobs.
-    Show(Asked),
-    /// The text of help or of the version, to be printed.
-    Help(String),
-}
-
 /// Why a value of `--values` can't be taken.
 const VALUES_TAKES: &str = "--values takes =D, =D:A or =D:A-B, or no value beside --steps";
 
@@ -84,70 +72,23 @@ const VALUES_TAKES: &str = "--values takes =D, =D:A or =D:A-B, or no value besid
 const MADE: &str = "";
 
 /// The greatest number that an option takes.
-const MOST: u32 = MOST_BUDGET as u32;
+const MOST: i64 = MOST_BUDGET as i64;
 
-/// An option for a number.
-fn number_option<'a>(alloc: Global, name: &'a str, value: &'a str, help: &'a str) -> Arg<'a> {
+/// An option whose value is this one if none is given.
+fn missing_option<'a>(
+    alloc: Global,
+    name: &'a str,
+    value: &'a str,
+    missing: &'a str,
+    help: &'a str,
+) -> Arg<'a> {
     Arg::new(alloc, name)
         .long(name)
         .value_name(value)
-        .value_parser(value_parser!(u32).range(0..=i64::from(MOST)))
-        .help(help)
-}
-
-/// An option for a number from 1 on.
-fn count_option<'a>(alloc: Global, name: &'a str, value: &'a str, help: &'a str) -> Arg<'a> {
-    number_option(alloc, name, value, help).value_parser(value_parser!(u32).range(
-        1..=i64::from(MOST),
-    ))
-}
-
-/// The option for lines.
-fn lines_option<'a>(alloc: Global) -> Arg<'a> {
-    Arg::new(alloc, "lines")
-        .long("lines")
-        .value_name("A-B")
-        .help("Of --steps only those on the lines A to B")
-}
-
-/// The option for a line or a function.
-fn at_option<'a>(alloc: Global) -> Arg<'a> {
-    Arg::new(alloc, "at")
-        .long("at")
-        .value_name("PLACE[:K]")
-        .help(
-            "Shows what there is before line PLACE is next, or where function PLACE begins, the first or K-th time",
-        )
-}
-
-/// The option for a condition.
-fn when_option<'a>(alloc: Global) -> Arg<'a> {
-    Arg::new(alloc, "when")
-        .long("when")
-        .value_name("WHAT>N")
-        .help(
-            "Shows what there is when first words>N are held, entries>N are there, or makes>N words are to be made",
-        )
-}
-
-/// The option for the file of a page.
-fn html_option<'a>(alloc: Global) -> Arg<'a> {
-    Arg::new(alloc, "html").long("html").value_name("OUT").help(
-        "Writes a page for a browser that shows this data to OUT; - is standard output",
-    )
-}
-
-/// The option for values.
-fn values_option<'a>(alloc: Global) -> Arg<'a> {
-    Arg::new(alloc, "values")
-        .long("values")
-        .value_name("D[:A-B]")
         .num_args(0..=1)
         .require_equals(true)
-        .default_missing_value(MADE)
-        .help(
-            "Shows the values A to B of the entry at depth D, or all; of --steps the values that each made",
-        )
+        .default_missing_value(missing)
+        .help(help)
 }
 
 /// The units of the option for stacks of functions.
@@ -155,124 +96,117 @@ const UNITS: &[&str] = &["instructions", "elements", "source"];
 
 /// The option for stacks of functions.
 fn folded_option<'a>(alloc: Global) -> Arg<'a> {
-    Arg::new(alloc, "folded")
-        .long("folded")
-        .value_name("UNIT")
-        .num_args(0..=1)
-        .require_equals(true)
-        .default_missing_value("instructions")
-        .value_parser(UNITS)
-        .help(
-            "Shows instructions, also by lines of the source, or elements by stacks of functions, for flame graphs",
-        )
+    let help =
+        "Shows instructions, also by lines of the source, or elements by stacks of functions, for flame graphs";
+    missing_option(alloc, "folded", "UNIT", "instructions", help).value_parser(UNITS)
 }
 
-/// An option without a value.
-fn flag_option<'a>(alloc: Global, name: &'a str, help: &'a str) -> Arg<'a> {
-    Arg::new(alloc, name)
-        .long(name)
-        .action(ArgAction::SetTrue)
-        .help(help)
+/// The option for values.
+fn values_option<'a>(alloc: Global) -> Arg<'a> {
+    let help =
+        "Shows the values A to B of the entry at depth D, or all; of --steps the values that each made";
+    missing_option(alloc, "values", "D[:A-B]", MADE, help)
 }
 
-/// The file.
-fn file_argument<'a>(alloc: Global) -> Arg<'a> {
-    Arg::new(alloc, "file")
-        .value_name("FILE")
-        .required(true)
-        .help("The batch; - is standard input")
+/// Adds the options for a state.
+fn add_states<'a>(arguments: &mut Arguments<'a>) -> Result<(), AllocError> {
+    arguments.number(
+        "job",
+        "K",
+        0..=MOST,
+        None,
+        "Shows the K-th job of the batch alone",
+    )?;
+    arguments.number(
+        "after",
+        "N",
+        0..=MOST,
+        None,
+        "Shows what there is after N instructions",
+    )?;
+    let at =
+        "Shows what there is before line PLACE is next, or where function PLACE begins, the first or K-th time";
+    arguments.text("at", "PLACE[:K]", at)?;
+    let when =
+        "Shows what there is when first words>N are held, entries>N are there, or makes>N words are to be made";
+    arguments.text("when", "WHAT>N", when)
 }
 
-/// The option that leaves out a run.
-fn no_least_option<'a>(alloc: Global) -> Arg<'a> {
-    flag_option(
-        alloc,
-        "no-least",
-        "Doesn't run a job that a limit ended again, to find limits within which it returns",
-    )
+/// Adds the options for a list of instructions.
+fn add_steps<'a>(arguments: &mut Arguments<'a>) -> Result<(), AllocError> {
+    arguments.flag("steps", "Shows a line for each instruction")?;
+    arguments.number(
+        "from",
+        "N",
+        0..=MOST,
+        None,
+        "The first instruction of --steps",
+    )?;
+    arguments.number("to", "N", 0..=MOST, None, "The last instruction of --steps")?;
+    arguments.text("lines", "A-B", "Of --steps only those on the lines A to B")
 }
 
-/// A command with the options for a state.
-fn with_states<'a>(alloc: Global, command: Command<'a>) -> Result<Command<'a>, clap::Error> {
-    Ok(
-        command
-            .arg(number_option(alloc, "job", "K", "Shows the K-th job of the batch alone"))?
-            .arg(number_option(
-                alloc,
-                "after",
-                "N",
-                "Shows what there is after N instructions",
-            ))?
-            .arg(at_option(alloc))?
-            .arg(when_option(alloc))?,
-    )
+/// Adds the options that thin out a list of instructions.
+fn add_filters<'a>(arguments: &mut Arguments<'a>) -> Result<(), AllocError> {
+    arguments.number(
+        "every",
+        "K",
+        1..=MOST,
+        None,
+        "Of these every K-th, from the first on",
+    )?;
+    arguments.number("first", "N", 1..=MOST, None, "Of these the first N")?;
+    arguments.number("last", "N", 1..=MOST, None, "Of these the last N")
 }
 
-/// A command with the options for a list of instructions.
-fn with_steps<'a>(alloc: Global, command: Command<'a>) -> Result<Command<'a>, clap::Error> {
-    Ok(
-        command
-            .arg(flag_option(alloc, "steps", "Shows a line for each instruction"))?
-            .arg(number_option(alloc, "from", "N", "The first instruction of --steps"))?
-            .arg(number_option(alloc, "to", "N", "The last instruction of --steps"))?
-            .arg(lines_option(alloc))?,
-    )
+/// Adds the options for a profile.
+fn add_profiles<'a>(arguments: &mut Arguments<'a>) -> Result<(), AllocError> {
+    let profile = "Shows the words over time, and what functions and lines did";
+    arguments.flag("profile", profile)?;
+    arguments.flag("all", "Shows all lines of --profile, else all entries")
 }
 
-/// A command with the options that thin out a list of instructions.
-fn with_filters<'a>(alloc: Global, command: Command<'a>) -> Result<Command<'a>, clap::Error> {
-    Ok(
-        command
-            .arg(count_option(
-                alloc,
-                "every",
-                "K",
-                "Of these every K-th, from the first on",
-            ))?
-            .arg(count_option(alloc, "first", "N", "Of these the first N"))?
-            .arg(count_option(alloc, "last", "N", "Of these the last N"))?,
-    )
-}
-
-/// A command with the options for a profile.
-fn with_profiles<'a>(alloc: Global, command: Command<'a>) -> Result<Command<'a>, clap::Error> {
-    Ok(
-        command
-            .arg(flag_option(
-                alloc,
-                "profile",
-                "Shows the words over time, and what functions and lines did",
-            ))?
-            .arg(flag_option(
-                alloc,
-                "all",
-                "Shows all lines of --profile, else all entries",
-            ))?
-            .arg(values_option(alloc))?
-            .arg(flag_option(
-                alloc,
-                "json",
-                "Shows all this as data, an object for each job, or a state alone",
-            ))?
-            .arg(html_option(alloc))?
-            .arg(folded_option(alloc))?,
-    )
+/// Adds the options for data.
+fn add_data<'a>(arguments: &mut Arguments<'a>) -> Result<(), AllocError> {
+    let json = "Shows all this as data, an object for each job, or a state alone";
+    arguments.flag("json", json)?;
+    let html = "Writes a page for a browser that shows this data to OUT; - is standard output";
+    arguments.text("html", "OUT", html)
 }
 
 /// The program whose words these are.
 pub struct VjobsWhy;
 
 impl Program for VjobsWhy {
-    fn command<'a>(alloc: Global) -> Result<Command<'a>, clap::Error> {
-        let command = Command::new(alloc, NAME)
-            .bin_name(NAME)?
-            .about("Shows why a VCODE job ended, and what there was on the way")
-            .version("0.1.0");
-        let command = with_states(alloc, command)?;
-        let command = with_steps(alloc, command)?;
-        let command = with_filters(alloc, command)?;
-        let command = with_profiles(alloc, command)?.arg(no_least_option(alloc))?;
-        Ok(command.arg(file_argument(alloc))?)
+    const NAME: &'static str = "vjobs-why";
+
+    fn described<'a>(command: Command<'a>) -> Command<'a> {
+        command.about("Shows why a VCODE job ended, and what there was on the way")
+    }
+
+    fn add_arguments<'a>(arguments: &mut Arguments<'a>) -> Result<(), AllocError> {
+        add_states(arguments)?;
+        add_steps(arguments)?;
+        add_filters(arguments)?;
+        add_profiles(arguments)?;
+        arguments.add(values_option(arguments.alloc()))?;
+        add_data(arguments)?;
+        arguments.add(folded_option(arguments.alloc()))?;
+        let no_least =
+            "Doesn't run a job that a limit ended again, to find limits within which it returns";
+        arguments.flag("no-least", no_least)?;
+        arguments.file("FILE", "The batch; - is standard input")
+    }
+}
+
+impl Asking for VjobsWhy {
+    type Asked = Asked;
+
+    fn asked_of(alloc: Global, matches: &ArgMatches<'_>) -> Result<Asked, WordsFault> {
+        match misuse(alloc, matches)? {
+            Some(text) => Err(WordsFault::Refused(text)),
+            None => asked_of(alloc, matches),
+        }
     }
 }
 
@@ -507,28 +441,13 @@ fn form_of(alloc: Global, matches: &ArgMatches<'_>) -> Result<Form, WordsFault> 
     Ok(Form::Texts(look_of(alloc, matches)?))
 }
 
-/// What was matched.
-fn asked_of(alloc: Global, matches: &ArgMatches<'_>) -> Result<Line, WordsFault> {
-    if let Some(text) = misuse(alloc, matches)? {
-        return Err(WordsFault::Refused(text));
-    }
+/// What was matched, as far as the options can be used so.
+fn asked_of(alloc: Global, matches: &ArgMatches<'_>) -> Result<Asked, WordsFault> {
     let form = form_of(alloc, matches)?;
-    Ok(Line::Show(Asked {
+    Ok(Asked {
         file: String::from_str(alloc, matches.get_str("file").unwrap_or("-"))?,
         job: number(matches, "job"),
         form,
         tries_least: !matches.get_flag("no-least"),
-    }))
-}
-
-/// Reads a command line, the program's name first.
-///
-/// # Errors
-///
-/// The text that refuses the line, or want of memory.
-pub fn read_line(alloc: Global, words: &[String]) -> Result<Line, WordsFault> {
-    match matches_of::<VjobsWhy>(alloc, words) {
-        Ok(matches) => asked_of(alloc, &matches),
-        Err(error) => Ok(Line::Help(help_of::<VjobsWhy>(alloc, &error, words)?)),
-    }
+    })
 }

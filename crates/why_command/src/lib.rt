@@ -4,5 +4,5 @@
 mod command;
 mod selection;
 
-pub use command::{Asked, Form, Line, Look, Object, Unit, VjobsWhy, read_line};
+pub use command::{Asked, Form, Look, Object, Unit, VjobsWhy};
 pub use selection::{LineRange, Picker, Selection};
