@@ -65,6 +65,9 @@ CASES: list[tuple[list[str], str, Ended]] = [
     *[(["-"], it * MOST_BYTES, EMPTY) for it in " \n"],
     (["-"], " " * (MOST_BYTES + 1), too_large(1)),
     (["-"], "\n" * (MOST_BYTES + 1), too_large(MOST_BYTES + 1)),
+    # A job, and behind it as many blanks as a batch may have bytes, and more.
+    (["-"], SMALL + " " * (MOST_BYTES - len(SMALL)), REPORT),
+    *[(["-"], SMALL + " " * (MOST_BYTES - len(SMALL) + more), too_large(8)) for more in (1, 10_000)],
     (["none"], "", NOT_READ),
     (["."], "", NOT_READ),
     (["--version"], "", ("vjobs 0.1.0\n", "", 0)),

@@ -50,30 +50,6 @@ impl<'h> Reader<'h> for CodeReader<&'h LocalHeap> {
     }
 }
 
-/// Two lines.
-const SHORT: &[u8] = b"FUNC MAIN\nRET\n";
-
-/// A number of a first line that is so high that no 2^32 lines can follow it.
-const HIGH_LINE: u64 = 18_446_744_069_414_584_321;
-
-/// The number of the first line of a program's first function.
-fn first_number(program: &Program<&LocalHeap>) -> Option<u64> {
-    let function = program.functions().first()?;
-    Some(function.item(0)?.number)
-}
-
-#[test]
-fn code_is_read_at_high_lines(rt: HostRuntime) -> Result<(), Fail> {
-    let heap = LocalHeap::new(rt.alloc(), HEAP)?;
-    line_feeds_are_few();
-    let number = match read(&heap, SHORT, HIGH_LINE) {
-        Ok(program) => first_number(&program),
-        Err(_) => None,
-    };
-    assert_eq!(rt; number, Some(HIGH_LINE + 1));
-    Ok(())
-}
-
 #[test]
 fn code_is_read_however_cut(rt: HostRuntime) -> Result<(), Fail> {
     let heap = LocalHeap::new(rt.alloc(), HEAP)?;

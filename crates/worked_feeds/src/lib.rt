@@ -17,8 +17,6 @@ mod codes;
 #[cfg(test)]
 mod course;
 #[cfg(test)]
-mod limits;
-#[cfg(test)]
 mod shortage;
 #[cfg(test)]
 mod signature_lines;

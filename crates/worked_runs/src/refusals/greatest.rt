@@ -5,6 +5,7 @@ use holes::Holes;
 use std::process::Abort;
 use std::test::Fail;
 use test_support::RefusingHeap;
+use vcode_reader::{Program, read};
 
 /// A first line that leaves fewer than 2^32 numbers of 64 bits for the lines after it.
 const LATE_LINE: u64 = 18_446_744_069_414_584_321;
@@ -12,13 +13,19 @@ const LATE_LINE: u64 = 18_446_744_069_414_584_321;
 /// The words of the longest region.
 const LONGEST_REGION: usize = 1_073_741_824;
 
+/// The number of the line that the first function of a program begins with.
+fn first_number(program: &Program<&Heap>) -> Option<u64> {
+    let function = program.functions().first()?;
+    Some(function.item(0)?.number)
+}
+
 /// A code of two lines is read from a late line on.
 fn late_code_is_read(rt: &impl Abort, heap: &Heap) -> Result<(), Fail> {
-    let Ok(program) = vcode_reader::read(heap, b"FUNC MAIN\nRET\n", LATE_LINE) else {
+    let Ok(program) = read(heap, b"FUNC MAIN\nRET\n", LATE_LINE) else {
         return Err(Fail::from("the code is refused"));
     };
     assert_eq!(rt; program.first_line(), LATE_LINE);
-    assert_eq!(rt; program.functions().len(), 1);
+    assert_eq!(rt; first_number(&program), Some(LATE_LINE + 1));
     drop(program);
     Ok(())
 }
