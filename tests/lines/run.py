@@ -2,8 +2,9 @@
 
 PROGRAM is the path of vjobs; without it the program that the gate built is taken, and if there is none, a line says
 that the tests are skipped. They read which lines it takes and refuses, and by what text, that each example has one
-report, how many threads run jobs, the texts of faults, and what it says of batches that are too long or have no end. Each allocation of a call is refused in
-turn, if there is a C compiler. models/attacks.py has odd names at each place where a message quotes them."""
+report, how many threads run jobs, the texts of faults, and what it says of batches that are too long or have no end.
+Each allocation of a call is refused in turn, if there is a C compiler. models/attacks.py has odd names at each place
+where a message quotes them."""
 from __future__ import annotations
 
 import subprocess
@@ -65,7 +66,7 @@ CASES: list[tuple[list[str], str, Ended]] = [
     *[(["-"], it * MOST_BYTES, EMPTY) for it in " \n"],
     (["-"], " " * (MOST_BYTES + 1), too_large(1)),
     (["-"], "\n" * (MOST_BYTES + 1), too_large(MOST_BYTES + 1)),
-    # A job, and behind it as many blanks as a batch may have bytes, and more.
+    # A job and blanks after it, up to the most bytes of a batch and past them.
     (["-"], SMALL + " " * (MOST_BYTES - len(SMALL)), REPORT),
     *[(["-"], SMALL + " " * (MOST_BYTES - len(SMALL) + more), too_large(8)) for more in (1, 10_000)],
     (["none"], "", NOT_READ),
@@ -247,7 +248,8 @@ def main() -> None:
             (Path(folder) / name).write_text(SMALL)
         (Path(folder) / "long.vcode").write_text(long_jobs())
         found = [it for part in (lines, reports, endless, writing, threads, memory) for it in part(program, folder)]
-    print(*found, f"lines: {len(CASES) + len(REFUSED) + len(THREADS) + len(WAYS) * len(EXAMPLES) + 9} runs, {len(found)} differ", sep="\n")
+    runs = len(CASES) + len(REFUSED) + len(THREADS) + len(WAYS) * len(EXAMPLES) + 9
+    print(*found, f"lines: {runs} runs, {len(found)} differ", sep="\n")
     sys.exit(bool(found))
 
 

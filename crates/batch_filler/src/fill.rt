@@ -52,7 +52,8 @@ fn texts_after<'a, A: Allocator>(
 }
 
 /// A batch with the first of the texts before the `CODE` of its first job, the second before that of the second, and
-/// so on. Each byte of the batch stays, in its order. A text is the whole lines of signatures, or empty.
+/// so on. Each byte of the batch stays, in its order. A text is the whole lines of signatures, or empty. Whether the
+/// batch is refused isn't looked at: each of its lines is in the section that [`Section::after`] gives.
 ///
 /// # Errors
 ///

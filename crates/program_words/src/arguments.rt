@@ -22,8 +22,8 @@ fn text_option<'a>(alloc: Global, name: &'a str, value: &'a str, help: &'a str) 
         .help(help)
 }
 
-/// Each call that adds an argument answers [`AllocError`] if memory was refused. Help shows the values of an option as
-/// `value`.
+/// Each call that adds an argument answers [`AllocError`] if memory was refused. Help shows `value` where an option has
+/// its value.
 impl<'a> Arguments<'a> {
     /// No argument yet.
     pub(crate) fn new(alloc: Global) -> Arguments<'a> {
@@ -78,7 +78,7 @@ impl<'a> Arguments<'a> {
         }
     }
 
-    /// Adds the name of a file, which has to be given.
+    /// Adds the name of a file, which has to be given: the argument `file`.
     pub fn file(&mut self, value: &'a str, help: &'a str) -> Result<(), AllocError> {
         self.add(
             Arg::new(self.alloc, "file")

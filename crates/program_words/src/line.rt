@@ -8,9 +8,9 @@ use clap::ArgMatches;
 use std::alloc::{AllocGlobal, Global};
 use std::rt::Env;
 
-/// A program that [`line_of`] tells what its words ask for.
+/// A program whose command line [`line_of`] reads.
 pub trait Asking: Program {
-    /// What they ask for.
+    /// What it can be asked for.
     type Asked: Drop;
 
     /// What words ask for of which clap has matched this.
@@ -22,7 +22,7 @@ pub trait Asking: Program {
     fn asked_of(alloc: Global, matches: &ArgMatches<'_>) -> Result<Self::Asked, WordsFault>;
 }
 
-/// What a command line asks for, over what a program may be asked for.
+/// What a command line asks for, over what its program can be asked for.
 #[derive(Drop)]
 pub enum Line<T> {
     /// What the program is to do.

@@ -32,8 +32,14 @@ pub struct Asked {
 /// The most words of a region.
 const MOST_REGION: u32 = MOST_WORDS as u32;
 
+/// The same as the text of an argument.
+const MOST_REGION_TEXT: &str = "1048576";
+
 /// The most bytes of a file.
 const MOST_FILE_BYTES: u32 = MOST_BATCH_BYTES as u32;
+
+/// The same as the text of an argument.
+const MOST_FILE_BYTES_TEXT: &str = "16777216";
 
 /// The option for the folder of the batches.
 fn out_option<'a>(alloc: Global) -> Arg<'a> {
@@ -75,10 +81,10 @@ impl Program for VjobsPack {
         arguments.add(out_option(arguments.alloc()))?;
         let region = "Words of the region that the batches are to run in";
         let words = 1..=i64::from(MOST_REGION);
-        arguments.number("region", "N", words, Some("1048576"), region)?;
+        arguments.number("region", "N", words, Some(MOST_REGION_TEXT), region)?;
         let most = "Bytes of the longest file that is packed";
         let bytes = 1..=i64::from(MOST_FILE_BYTES);
-        arguments.number("most-bytes", "N", bytes, Some("16777216"), most)?;
+        arguments.number("most-bytes", "N", bytes, Some(MOST_FILE_BYTES_TEXT), most)?;
         let stack = "Most entries of a function's stack; no bound if it isn't given";
         arguments.number("most-entries", "N", 0..=i64::from(u32::MAX), None, stack)?;
         arguments.add(list_option(arguments.alloc()))?;
