@@ -13,7 +13,7 @@ const LATE_LINE: u64 = 18_446_744_069_414_584_321;
 /// The words of the longest region.
 const LONGEST_REGION: usize = 1_073_741_824;
 
-/// The number of the line that the first function of a program begins with.
+/// The number of the line of the first instruction of the first function of a program.
 fn first_number(program: &Program<&Heap>) -> Option<u64> {
     let function = program.functions().first()?;
     Some(function.item(0)?.number)
