@@ -99,13 +99,13 @@ impl Watch {
         match coming.effect {
             Effect::Calls => self.trail.call(coming.line, self.uses.run())?,
             Effect::Returns => self.trail.leave(),
-            Effect::Computes => self.make(coming.line, frame)?,
-            Effect::Moves(_) | Effect::Nothing => {}
+            Effect::Makes | Effect::MakesTwo => self.make(coming.line, frame)?,
+            Effect::Chooses | Effect::Moves(_) | Effect::Nothing => {}
         }
         Ok(true)
     }
 
-    /// Follows an instruction with operands or results that was executed, which is at a frame and on a line.
+    /// Follows an instruction with results that was executed, which is at a frame and on a line.
     fn make(&mut self, line: u64, frame: Frame) -> Result<(), AllocError> {
         let run = self.uses.run();
         match op_at(run, frame) {

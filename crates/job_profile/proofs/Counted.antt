@@ -1,6 +1,6 @@
 -- A profile after a step.
 use Rattle.std.proofs.Common.{add-one, List, Option, None, Some, refl, ◌≡◌, ◌≢◌, ℕ, ◌+◌, ◌<◌, ◌≤◌, cond, []}
-use Rattle.std.proofs.Common.{get_or, length, max, sym, ◌∙◌, ap, arith}
+use Rattle.std.proofs.Common.{get_or, length, max, sym, ◌∙◌, ap, subst, arith}
 use Rattle.std.specs.Prelude.{nat_lt}
 use Rattle.std.proofs.Math.ListN.{set}
 use Rattle.std.proofs.lemmas.Bool.Decides.{nat_tests}
@@ -13,6 +13,7 @@ use Rattle.job_steps.specs.States.{Task}
 use Rattle.job_steps.specs.Steps.{Progress}
 use Rattle.job_slots.specs.Answers.{demand_in}
 use Rattle.job_profile.specs.declared.coming.Coming.{Coming}
+use Rattle.job_profile.specs.declared.coming.Effect.{Effect}
 use Rattle.job_profile.specs.declared.strip.Column.{Column}
 use Rattle.job_profile.specs.Comings.{coming_by, coming_in}
 use Rattle.job_profile.specs.Columns.{AreFine, column_at, highest}
@@ -66,6 +67,15 @@ pub of_new : {task : Task} {p : Progress} {new : RunState} {times : List ℕ} {a
     IsProfile new.task (progress_of new) times after columns each room coming
 of_new come h = grind arith
 
+-- what is found of the instruction, in the words of the job before the step
+pub found_by : {task : Task} {p q : Progress} {new : RunState} {effect : Effect} {held most : ℕ} → HasCome task q new →
+    ((p : Progress) → HasExecuted new.task p (progress_of new) → effect ≡ (coming_in p).effect → held ≡ held_in p →
+    most ≡ demand_in new.task.rule p) → effect ≡ (coming_in p).effect → held ≡ held_in p →
+    HasExecuted task p (progress_of new) → most ≡ demand_in task.rule p
+found_by {p = p} {new = new} {most = most} come found effect_is held_is =
+    subst (λ t. HasExecuted t p (progress_of new) → most ≡ demand_in t.rule p) come.task_is
+    (λ x. found p x effect_is held_is)
+
 module _ {task : Task} {p q : Progress} {was grown : List ℕ} {after : ℕ} {columns : List Column} {each room : ℕ}
     {coming : Coming} (h : IsProfile task p was after columns each room coming) (moved : HasMoved task p q)
     (alike : CountAlike was grown) where
@@ -99,7 +109,7 @@ module _ {task : Task} {p q : Progress} {was grown : List ℕ} {after : ℕ} {co
       highest more ≡ max (highest columns) column.most → column.line < length grown → column.line ≡ line_in p →
       times ≡ set grown column.line (get_or grown column.line 0 + 1) →
       later ≡ cond (nat_lt (peak_in p) (peak_in q)) (executed_count_in q) after →
-      (executed_count_in q ≡ executed_count_in p + 1 → column.most ≡ demand_in task.rule p) →
+      (HasExecuted task p q → column.most ≡ demand_in task.rule p) →
       column.least ≡ held_in q → next ≡ coming_in q → IsProfile task q times later more each' room' next
   counts other {column} {more} {each'} {room'} {later} {times} strip fine greatest there line_is times_is later_is asked
       least_is next_is =
@@ -112,7 +122,7 @@ module _ {task : Task} {p q : Progress} {was grown : List ℕ} {after : ℕ} {co
           first = rw (later_is, x.executed) peaks.1;
           strip = rw x.executed (strip (column_at task) n h.counted.strip is);
           fine = rw x.executed (fine (column_at task) n h.counted.strip);
-          highest_is = omega (arith, greatest, h.counted.highest_is, asked x.executed, x.peak_is);
+          highest_is = omega (arith, greatest, h.counted.highest_is, asked x, x.peak_is);
         };
         coming_is = next_is;
       }
@@ -124,7 +134,7 @@ module _ {task : Task} {p q : Progress} {was grown : List ℕ} {after : ℕ} {co
       x = executes other
 
       is : column ≡ column_at task n
-      is = column_by x (asked x.executed) least_is line_is
+      is = column_by x (asked x) least_is line_is
 
       one_more : IsMore was times column.line
       one_more = more_by was grown times column.line alike there times_is

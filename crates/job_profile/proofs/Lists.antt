@@ -1,10 +1,10 @@
 -- Lists of counts.
 use Rattle.std.proofs.Common.{◌≡◌, ℕ, zero, suc, ◌+◌, ◌<◌, ◌≤◌, cond, eqb, List, [], ◌∷◌, drop, length, take, get_or}
-use Rattle.std.proofs.Common.{refl, arith, get_or-set_other, get_or-set_same}
+use Rattle.std.proofs.Common.{None, slice_get, refl, arith, get_or-set_other, get_or-set_same}
 use Rattle.std.proofs.Math.ListN.{set}
 use Rattle.std.proofs.lemmas.Bool.Decides.{nat_tests}
 use Rattle.std.proofs.lemmas.List.Sums.{sum_by-cons, sum_by-set, sum_by-take-drop, sum_by-take-le}
-use Rattle.std.specs.Prelude.{sum}
+use Rattle.std.specs.Prelude.{slice_index_or, sum}
 use Rattle.job_steps.specs.States.{Task}
 use Rattle.job_profile.specs.Counts.{times_of, times_until}
 use Rattle.job_profile.specs.Sound.{CountAlike}
@@ -40,3 +40,9 @@ pub part_is : (task : Task) (n : ℕ) (times : List ℕ) →
 part_is task n times each first zero = refl
 part_is task n times each first (suc count) =
     grind (arith, part_more, each, part_is task n times each (suc first) count)
+
+-- nothing is read past the end of a list
+pub missing_at : {X : Type 0} (xs : List X) (n : ℕ) (d : X) → slice_get xs n ≡ None → slice_index_or xs n d ≡ d
+missing_at [] n d none = refl
+missing_at (x ∷ xs) zero d none = grind arith
+missing_at (x ∷ xs) (suc n) d none = missing_at xs n d none

@@ -3,14 +3,18 @@
 ghost use Rattle.std.specs.Prelude.{◌≡◌};
 ghost use Rattle.job_profile.specs.Comings.{coming_by, does_move, effect_of};
 
-use vcode_base::{Instr, Instruction, StackMove};
+use vcode_base::{Instr, Instruction, Segmented, StackMove};
 use vcode_reader::{CodeItem, CodeLine};
 
 /// What an instruction does.
 #[derive(Clone, Copy)]
 pub enum Effect {
-    /// It takes operands or makes results.
-    Computes,
+    /// It makes one result, of its operands or its list.
+    Makes,
+    /// It makes two results of its operands.
+    MakesTwo,
+    /// It takes an operand and makes nothing: an `IF`.
+    Chooses,
     /// It moves entries of the stack.
     Moves(StackMove),
     /// It calls a function.
@@ -39,7 +43,11 @@ fn effect_of(item: &CodeItem<Instruction<'_>>) -> Effect
         CodeItem::Do(Instr::Move(motion, ..)) => Effect::Moves(*motion),
         CodeItem::Do(Instr::Call(_)) => Effect::Calls,
         CodeItem::Do(Instr::Return) => Effect::Returns,
-        CodeItem::Do(_) | CodeItem::If | CodeItem::Else | CodeItem::Endif => Effect::Computes,
+        CodeItem::Do(Instr::Segmented(Segmented::Pack(_))) => Effect::MakesTwo,
+        CodeItem::Do(Instr::Const(..) | Instr::Elementwise(_) | Instr::Segmented(_)) =>
+            Effect::Makes,
+        CodeItem::Do(Instr::If) | CodeItem::If | CodeItem::Else | CodeItem::Endif =>
+            Effect::Chooses,
     }
 }
 
@@ -67,6 +75,6 @@ pub(crate) fn does_move(effect: Effect) -> bool
 {
     match effect {
         Effect::Moves(_) | Effect::Calls | Effect::Returns => true,
-        Effect::Computes | Effect::Nothing => false,
+        Effect::Makes | Effect::MakesTwo | Effect::Chooses | Effect::Nothing => false,
     }
 }

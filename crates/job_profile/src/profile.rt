@@ -127,14 +127,11 @@ impl<A: Allocator> Profile<A> {
         ensures unchanged { OnErr result (self.new ≡ self.old) }
     {
         steps_move();
-        let line = self.coming.line as usize;
+        let Coming { effect, line } = self.coming;
+        let line = line as usize;
         grow(&mut self.times, line)?;
         let run = self.uses.run();
-        let (most, executed, peak) = (
-            run.demand_by(self.coming.effect),
-            run.executed(),
-            run.peak(),
-        );
+        let (held, executed, peak) = (run.held(), run.executed(), run.peak());
         let goes_on = self.uses.step();
         let run = self.uses.run();
         self.coming = run.coming();
@@ -145,6 +142,7 @@ impl<A: Allocator> Profile<A> {
                 words: None,
             });
         }
+        let most = run.counted(effect, held);
         note_peak(&mut self.peak_after, peak, run.peak(), now);
         count(&mut self.times, line);
         self.strip.add(Column { most, least, line });

@@ -1,15 +1,17 @@
 //! The run of one job, in one go.
 
-ghost use Rattle.std.specs.Prelude.{◌≡◌, ◌+◌, ◌<◌, ◌≤◌, ◌↔◌, IsTrue, IfOk, MatchOption, OnOk, OnErr};
+ghost use Rattle.std.specs.Prelude.{◌≡◌, ◌+◌, ◌<◌, ◌≤◌, ◌↔◌, ◌^◌, [], length, slice_index_or, IsTrue, IfOk};
+ghost use Rattle.std.specs.Prelude.{MatchOption, OnOk, OnErr};
 ghost use Rattle.std.specs.Prelude.{option_copied, slice_get};
 ghost use Rattle.job_steps.specs.LeastLimits.{cells_in, calls_in};
 ghost use Rattle.job_steps.specs.Runs.{executed_count_in, peak_in, progress_from};
 ghost use Rattle.job_steps.specs.Standings.{held_in};
 ghost use Rattle.job_steps.specs.States.{ruled};
+ghost use Rattle.job_steps.specs.Steps.{Progress};
 ghost use Rattle.job_slots.specs.Answers.{demand_in, told_demand_in, told_need_in};
-ghost use Rattle.job_profile.specs.Moves.{StepsMove};
+ghost use Rattle.job_profile.specs.Moves.{HasExecuted, StepsMove};
 ghost use Rattle.job_profile.specs.Walks.{AreSame, HasCome, StandAt, ending_at, ending_of, first_run, goes_on};
-ghost use Rattle.job_profile.specs.Comings.{coming_in};
+ghost use Rattle.job_profile.specs.Comings.{coming_in, made_in};
 ghost use Rattle.job_profile.specs.Walks.{lists_in, next_line_in, progress_of, tags_in};
 
 use crate::coming::{Coming, Effect, coming_by, does_move};
@@ -18,7 +20,8 @@ use job_memory::JobMemory;
 use job_slots::laws::{new_is_shown, shown_are_live, shown_are_reached, shown_is_alone};
 use job_slots::{Slot, Status, Turn};
 use job_steps::laws::{
-    early_ends_end, ended_are_over, never_stuck, others_are_ready, reached, steps_can_begin,
+    early_ends_end, ended_are_over, executed_are_counted, never_stuck, others_are_ready, reached,
+    steps_can_begin,
 };
 use job_steps::{Desk, Frames, Job};
 use std::alloc::{AllocError, Allocator};
@@ -175,35 +178,8 @@ impl<A: Allocator> Run<A> {
     ///
     /// If the instruction's operands don't fit one another, these are only the words that it holds. If they are more
     /// than the greatest `u64`, they are answered as that.
-    #[inline(always)]
-    pub fn demand(&self) -> usize
-        ensures executed { executed_count_in (progress_from self.now.task (progress_of self.now))
-            ≡ executed_count_in (progress_of self.now) + 1
-            → result ≡ demand_in self.now.task.rule (progress_of self.now) }
-        ensures told { result ≡ told_demand_in self.now.task.rule (progress_of self.now) }
-    {
-        self.demand_by(self.coming().effect)
-    }
-
-    /// The same, if it is known what the next instruction does.
-    #[inline(always)]
-    #[tactic(auto, using(crate::proofs::Moved::demand_moved, crate::proofs::Moved::told_moved))]
-    pub(crate) fn demand_by(&self, effect: Effect) -> usize
-        requires { effect ≡ (coming_in (progress_of self.now)).effect }
-        ensures executed { executed_count_in (progress_from self.now.task (progress_of self.now))
-            ≡ executed_count_in (progress_of self.now) + 1
-            → result ≡ demand_in self.now.task.rule (progress_of self.now) }
-        ensures told { result ≡ told_demand_in self.now.task.rule (progress_of self.now) }
-    {
-        if does_move(effect) {
-            return self.held();
-        }
-        self.read_demand()
-    }
-
-    /// The same, found from the operands of the instruction, whatever it is.
     #[tactic(auto, using(crate::proofs::Shown::no_demand))]
-    fn read_demand(&self) -> usize
+    pub fn demand(&self) -> usize
         ensures executed { executed_count_in (progress_from self.now.task (progress_of self.now))
             ≡ executed_count_in (progress_of self.now) + 1
             → result ≡ demand_in self.now.task.rule (progress_of self.now) }
@@ -218,6 +194,51 @@ impl<A: Allocator> Run<A> {
             self.slot.demand(turn, &self.job, &self.blocks)
         } else {
             0
+        }
+    }
+
+    /// The words that were held and needed at the instruction that it executed last, which did this. `held` words were
+    /// held before it.
+    #[inline(always)]
+    pub(crate) fn counted(&self, effect: Effect, held: usize) -> usize
+        ensures { (p : Progress) → HasExecuted self.now.task p (progress_of self.now)
+            → effect ≡ (coming_in p).effect → held ≡ held_in p → result ≡ demand_in self.now.task.rule p }
+    {
+        executed_are_counted();
+        let _peak = self.peak();
+        if does_move(effect) {
+            return held;
+        }
+        match self.rule {
+            Rule::First => held.saturating_add(self.made(effect)),
+            Rule::Second => self.held(),
+        }
+    }
+
+    /// The words of the results of the instruction that it executed last, which did this.
+    #[inline(always)]
+    fn made(&self, effect: Effect) -> usize
+        ensures { made_in effect (progress_of self.now) < 2 ^ 64 → result ≡ made_in effect (progress_of self.now) }
+    {
+        match effect {
+            Effect::Makes => self.length(0),
+            Effect::MakesTwo => self.length(0).saturating_add(self.length(1)),
+            Effect::Chooses
+            | Effect::Moves(_)
+            | Effect::Calls
+            | Effect::Returns
+            | Effect::Nothing => 0,
+        }
+    }
+
+    /// How many words the entry of the stack at this depth has, 0 at the top, or 0 if there is none.
+    #[inline(always)]
+    fn length(&self, depth: usize) -> usize
+        ensures { result ≡ length (slice_index_or (lists_in (progress_of self.now)) depth []) }
+    {
+        match self.words(depth) {
+            Some(words) => words.len(),
+            None => 0,
         }
     }
 

@@ -1,5 +1,6 @@
 mod Admissions
 mod Bounds
+mod Counted
 mod EventOrder
 mod Following
 mod Halves

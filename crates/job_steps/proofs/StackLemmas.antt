@@ -150,7 +150,7 @@ total_append : (xs ys : List StackEntry) → total_words (xs ++ ys) ≡ total_wo
 total_append [] ys = omega arith
 total_append (x ∷ xs) ys = omega (arith, total_append xs ys)
 
-total_reverse : (xs : List StackEntry) → total_words (reverse xs) ≡ total_words xs
+pub total_reverse : (xs : List StackEntry) → total_words (reverse xs) ≡ total_words xs
 total_reverse [] = refl
 total_reverse (x ∷ xs) = grind (arith, reverse-cons, total_append, (total_reverse xs))
 

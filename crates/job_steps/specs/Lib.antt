@@ -1,4 +1,5 @@
 pub mod Buffers
+pub mod Counted
 pub mod EventLaws
 pub mod Events
 pub mod Flows

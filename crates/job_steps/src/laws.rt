@@ -1,6 +1,7 @@
 //! Laws of the definitions that the contracts cite, and of `==`: each is the contract of a function.
 
 ghost use Rattle.std.specs.Prelude.{◌≡◌, ◌↔◌, IsTrue};
+ghost use Rattle.job_steps.specs.Counted.{ExecutedAreCounted, LastIsReturn};
 ghost use Rattle.job_steps.specs.Frames.{EachLineRemains};
 ghost use Rattle.job_steps.specs.LeastLimits.{UsedAreLeast};
 ghost use Rattle.job_steps.specs.Reached.{Reaches, NeverStuck, EndsOnce, EachEnds, EndIsOwn};
@@ -64,6 +65,15 @@ pub fn end_is_own()
 pub fn results_have_kinds()
     ensures { ResultsHaveKinds }
 {}
+
+/// What counted at an instruction that was executed follows from what is held afterwards, and by the first rule from
+/// what was held before and from the results. Only a RET that is executed ends a run.
+pub fn executed_are_counted()
+    ensures counted { ExecutedAreCounted }
+    ensures last { LastIsReturn }
+{
+    results_have_needed_lengths();
+}
 
 /// The words of each vector that a verified job reaches are those of its kind, and so are the operands of
 /// its next instruction.

@@ -1,7 +1,9 @@
 //! What a job holds at its peak, by the lines that made it, and what of it is read later.
 
+use crate::works::{Work, Works};
 use job_history::{Next, Origin, Trail};
 use job_profile::{Effect, Run};
+use job_steps::Frame;
 use std::alloc::{AllocError, Global};
 use std::ops::Range;
 use vcode_base::{Instr, Kind, StackMove};
@@ -31,20 +33,20 @@ struct Note {
 /// An instruction that takes operands or makes results: how many elements its operands have, and the kinds of its
 /// results from the bottom of the stack up.
 #[derive(Clone, Copy, Drop)]
-pub(crate) struct Work {
+pub(crate) struct Taken {
     pub(crate) elements: u64,
     pub(crate) results: &'static [Kind],
 }
 
-/// What a run holds: its vectors, each at the number of its block; the next instruction, with the elements and the
-/// blocks of its operands, if it has operands or results; the most words so far, how often they were passed, and the
-/// line at which they were passed last; and notes on the vectors that were held before that, each from the first change
-/// on.
+/// What a run holds: its vectors, each at the number of its block; the next instruction, with the blocks of its
+/// operands, if it has operands or results; the most words so far, how often they were passed, and the line at which
+/// they were passed last; and notes on the vectors that were held before that, each from the first change on.
 #[derive(Drop)]
 pub(crate) struct Holds {
+    works: Works,
     vectors: Vec<Vector>,
-    work: Work,
-    taken: Vec<usize>,
+    taken: Taken,
+    blocks: Vec<usize>,
     peak: usize,
     peaks: u64,
     line: u64,
@@ -124,14 +126,16 @@ impl Vector {
 
 impl Holds {
     /// What a run holds that has executed nothing.
-    pub(crate) fn new(alloc: Global, run: &Run<Global>) -> Holds {
-        Holds {
+    pub(crate) fn new(alloc: Global, run: &Run<Global>) -> Result<Holds, AllocError> {
+        let works = Works::of(alloc, run.job().verified().program())?;
+        Ok(Holds {
+            works,
             vectors: Vec::new(alloc),
-            work: Work {
+            taken: Taken {
                 elements: 0,
                 results: &[],
             },
-            taken: Vec::new(alloc),
+            blocks: Vec::new(alloc),
             peak: 0,
             peaks: 0,
             line: match Next::of(run) {
@@ -139,7 +143,7 @@ impl Holds {
                 None => 0,
             },
             notes: Vec::new(alloc),
-        }
+        })
     }
 
     /// Makes a note of the vector of a block, if it was held at the last peak and has none.
@@ -169,15 +173,21 @@ impl Holds {
         Ok(())
     }
 
-    /// Notes that the vector of a block is read.
+    /// Notes that the vector of a block is read, if it was held at the last peak.
     #[inline(always)]
     fn read(&mut self, trail: &Trail<Global>, block: usize) -> Result<(), AllocError> {
+        match self.vectors.get(block) {
+            Some(vector) if vector.made_in < self.peaks => self.mark_read(trail, block),
+            Some(_) | None => Ok(()),
+        }
+    }
+
+    /// Notes that the vector of a block, which was held at the last peak, is read.
+    fn mark_read(&mut self, trail: &Trail<Global>, block: usize) -> Result<(), AllocError> {
         self.note(trail, block)?;
         if let Some(vector) = self.vectors.get(block) {
-            if vector.made_in < self.peaks {
-                if let Some(note) = self.notes.get_mut(vector.note) {
-                    note.is_read = true;
-                }
+            if let Some(note) = self.notes.get_mut(vector.note) {
+                note.is_read = true;
             }
         }
         Ok(())
@@ -215,35 +225,43 @@ impl Holds {
         Ok(())
     }
 
-    /// Looks at the operands of the next instruction of a run.
-    fn take(&mut self, run: &Run<Global>) -> Result<(), AllocError> {
-        let Some(Next { op, .. }) = Next::of(run) else {
-            return Ok(());
-        };
-        let (operands, results) = (op.operand_kinds().len(), op.result_kinds());
-        self.taken.clear();
+    /// How many words the vector of a block has.
+    #[inline(always)]
+    fn words(&self, block: usize) -> u64 {
+        match self.vectors.get(block) {
+            Some(vector) => vector.words as u64,
+            None => 0,
+        }
+    }
+
+    /// Looks at the operands of the next instruction of a run, which is at a frame.
+    #[inline(always)]
+    fn take(&mut self, run: &Run<Global>, frame: Frame) -> Result<(), AllocError> {
+        let Work { operands, results } = self.works.at(frame);
+        self.blocks.clear();
         let mut elements: u64 = 0;
         for depth in 0..operands {
-            if let (Some(block), Some(words)) = (run.block(depth), run.words(depth)) {
-                self.taken.push(block)?;
-                elements = elements.saturating_add(words.len() as u64);
+            if let Some(block) = run.block(depth) {
+                self.blocks.push(block)?;
+                elements = elements.saturating_add(self.words(block));
             }
         }
-        self.work = Work { elements, results };
+        self.taken = Taken { elements, results };
         Ok(())
     }
 
-    /// Looks at the next instruction of a run, which does this: at the entries that it copies or pops, or at its
-    /// operands.
+    /// Looks at the next instruction of a run, which is at a frame and does this: at the entries that it copies or pops,
+    /// or at its operands.
     #[inline(always)]
     pub(crate) fn look(
         &mut self,
         trail: &Trail<Global>,
         run: &Run<Global>,
         effect: Effect,
+        frame: Frame,
     ) -> Result<(), AllocError> {
         match effect {
-            Effect::Computes => self.take(run),
+            Effect::Makes | Effect::MakesTwo | Effect::Chooses => self.take(run, frame),
             Effect::Moves(StackMove::Copy) => self.copy(trail, run),
             Effect::Moves(StackMove::Pop) => self.pop(trail, run),
             Effect::Moves(StackMove::MoveToTop)
@@ -260,17 +278,17 @@ impl Holds {
         trail: &Trail<Global>,
         run: &Run<Global>,
         line: u64,
-    ) -> Result<Work, AllocError> {
+    ) -> Result<Taken, AllocError> {
         if run.peak() > self.peak {
             self.pass(run.peak(), line);
         }
-        for place in 0..self.taken.len() {
-            if let Some(block) = self.taken.get(place).copied() {
+        for place in 0..self.blocks.len() {
+            if let Some(block) = self.blocks.get(place).copied() {
                 self.read(trail, block)?;
                 self.drop_entry(block);
             }
         }
-        Ok(self.work)
+        Ok(self.taken)
     }
 
     /// Notes that the most words were passed at a line.

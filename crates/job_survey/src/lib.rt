@@ -7,6 +7,7 @@
 mod holders;
 mod levels;
 mod survey;
+mod works;
 
 pub use holders::{Holder, Holdings};
 pub use levels::{Counted, Levels};

@@ -142,6 +142,22 @@ impl Counts {
     }
 }
 
+/// The counts of a run that has executed nothing, and what it holds.
+fn first_parts(
+    alloc: Global,
+    run: &Run<Global>,
+    words: Words,
+) -> Result<(Counts, Holds), AllocError> {
+    let holds = Holds::new(alloc, run)?;
+    match Counts::new(alloc, run, words) {
+        Ok(counts) => Ok((counts, holds)),
+        Err(error) => {
+            drop(holds);
+            Err(error)
+        }
+    }
+}
+
 impl Survey {
     /// The survey of a job that has executed nothing.
     fn new(
@@ -167,9 +183,8 @@ impl Survey {
         trail: Trail<Global>,
         words: Words,
     ) -> Result<Survey, AllocError> {
-        let holds = Holds::new(alloc, profile.run());
-        match Counts::new(alloc, profile.run(), words) {
-            Ok(counts) => Ok(Survey {
+        match first_parts(alloc, profile.run(), words) {
+            Ok((counts, holds)) => Ok(Survey {
                 profile,
                 counts,
                 trail,
@@ -179,7 +194,6 @@ impl Survey {
                 last: None,
             }),
             Err(error) => {
-                drop(holds);
                 drop(trail);
                 drop(profile);
                 Err(error)
@@ -220,7 +234,7 @@ impl Survey {
                 self.trail.leave();
                 Ok(())
             }
-            Effect::Computes => self.follow_work(coming.line),
+            Effect::Makes | Effect::MakesTwo | Effect::Chooses => self.follow_work(coming.line),
             Effect::Moves(_) | Effect::Nothing => Ok(()),
         }
     }
@@ -228,10 +242,10 @@ impl Survey {
     /// Counts and follows an instruction of a line that takes operands or makes results, and that was executed.
     fn follow_work(&mut self, line: u64) -> Result<(), AllocError> {
         let run = self.profile.run();
-        let work = self.holds.release(&self.trail, run, line)?;
-        let mut elements = work.elements;
-        for (place, kind) in work.results.iter().enumerate() {
-            let depth = work.results.len().saturating_sub(place).saturating_sub(1);
+        let taken = self.holds.release(&self.trail, run, line)?;
+        let mut elements = taken.elements;
+        for (place, kind) in taken.results.iter().enumerate() {
+            let depth = taken.results.len().saturating_sub(place).saturating_sub(1);
             if let (Some(block), Some(words)) = (run.block(depth), run.words(depth)) {
                 self.holds.put(block, words.len())?;
                 self.trail.put(block, *kind, line)?;
@@ -245,7 +259,7 @@ impl Survey {
     #[inline(always)]
     fn step(&mut self, coming: Coming, frame: Frame) -> Result<bool, AllocError> {
         let run = self.profile.run();
-        self.holds.look(&self.trail, run, coming.effect)?;
+        self.holds.look(&self.trail, run, coming.effect, frame)?;
         let stepped = self.profile.step()?;
         if let Some(words) = stepped.words {
             self.counts.count_words(coming.line, frame.function, words)?;

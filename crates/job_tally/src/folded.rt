@@ -35,7 +35,8 @@ fn count(
             chains.leave();
             Ok(())
         }
-        Effect::Computes | Effect::Moves(_) | Effect::Nothing => Ok(()),
+        Effect::Makes | Effect::MakesTwo | Effect::Chooses | Effect::Moves(_) | Effect::Nothing =>
+            Ok(()),
     }
 }
 
@@ -64,7 +65,7 @@ fn step(
     effect: Effect,
     run: &mut Run<Global>,
 ) -> Result<bool, AllocError> {
-    if let Effect::Computes = effect {
+    if let Effect::Makes | Effect::MakesTwo | Effect::Chooses = effect {
         return Ok(compute(stretch, run));
     }
     let executed = run.executed();

@@ -1,14 +1,10 @@
 -- An instruction that is executed is counted at its line and goes into a column. One that isn't leaves both.
 use Rattle.std.proofs.Common.{◌<◌, ◌^◌, cond, sym, ◌∙◌, ap, arith, rules}
 use Rattle.std.specs.Prelude.{nat_lt}
-use Rattle.job_steps.specs.Runs.{executed_count_in}
 use Rattle.job_profile.specs.declared.coming.Coming.{Coming}
 use Rattle.job_profile.specs.Walks.{progress_of}
-use Rattle.job_profile.proofs.Counted.{counts, executes, fits, line_coming, of_new, stays}
+use Rattle.job_profile.proofs.Counted.{counts, executes, fits, found_by, line_coming, of_new, stays}
 use Rattle.job_profile.proofs.profile.Profile.step.Goals as goal
-
-pub demand_by-most-requires : goal.demand_by-most-requires
-demand_by-most-requires g c = rw c.run-run.ensures (ap (λ (m : Coming). m.effect) c.self.invariant.coming_is)
 
 pub invariant_of-self-then-now-executed : goal.invariant_of-self-then-now-executed
 invariant_of-self-then-now-executed g c =
@@ -39,14 +35,16 @@ invariant_of-self-2 g c =
     let after = rw shown at c.executed-now.ensures in
     let peak = rw seen at c.peak-peak.ensures in
     let next = rw shown at c.peak.ensures in
-    let asked = rw seen at c.demand_by-most.ensures.executed in
+    let found =
+    found_by come (rw shown at c.counted-most.ensures)
+    (ap (λ (m : Coming). m.effect) c.self.invariant.coming_is) (rw seen at c.held-held.ensures) in
     of_new come
     (counts c.self.invariant (c.steps_move.ensures _ _ _ c.self.invariant.on_run come.progress_is) c.grow.ensures.same
     (λ e. c.if-now-executed.false (after ∙ e ∙ sym before)) c.add.ensures.strip c.add.ensures.fine
     c.add.ensures.highest c.in_ok-grow.ensures.long
     (ap (λ (m : Coming). m.line) c.self.invariant.coming_is ∙ line_coming (progress_of c.self.inside.uses))
     c.count.ensures (c.note_peak.ensures ∙ (λ i. cond (nat_lt (peak i) (next i)) (after i) c.self.inside.peak_after))
-    (λ more. asked (sym (ap executed_count_in come.progress_is) ∙ more)) (rw shown at c.held-least.ensures)
+    found (rw shown at c.held-least.ensures)
     (rw shown at c.coming-self-inside.ensures))
 
 pub returns-clause-words : goal.returns-clause-words
@@ -55,9 +53,10 @@ returns-clause-words g c =
     let seen = c.run-run.ensures in
     let before = rw seen at c.executed-executed.ensures in
     let after = rw c.run-run-2.ensures at c.executed-now.ensures in
-    let asked = rw seen at c.demand_by-most.ensures.executed in
-    let more =
+    let found =
+    found_by come (rw c.run-run-2.ensures at c.counted-most.ensures)
+    (ap (λ (m : Coming). m.effect) c.self.invariant.coming_is) (rw seen at c.held-held.ensures) in
+    let x =
     (executes c.self.invariant (c.steps_move.ensures _ _ _ c.self.invariant.on_run come.progress_is) c.grow.ensures.same
-    (λ e. c.if-now-executed.false (after ∙ e ∙ sym before))).executed in
-    let words = asked (sym (ap executed_count_in come.progress_is) ∙ more) in
-    (rw c.self.view_is at more, rw c.self.view_is at words)
+    (λ e. c.if-now-executed.false (after ∙ e ∙ sym before))) in
+    (rw c.self.view_is at x.executed, rw c.self.view_is at (found x))

@@ -1,5 +1,5 @@
 use Rattle.job_profile.proofs.Shown.{demand_at, told_at}
-use Rattle.job_profile.proofs.run.Run.read_demand.Goals as goal
+use Rattle.job_profile.proofs.run.Run.demand.Goals as goal
 
 pub returns-then-goes_on-clause-executed : goal.returns-then-goes_on-clause-executed
 returns-then-goes_on-clause-executed g c =
