@@ -2,6 +2,7 @@
 use Rattle.std.proofs.Common.{◌≡◌, ℕ, ◌+◌, ◌-◌, ◌<◌, ◌^◌, min, List, [], ◌∷◌, length, false, true, refl, sym, arith}
 use Rattle.vcode_base.specs.declared.rule.Rule.TheVariants.{First, Second}
 use Rattle.vcode_base.specs.declared.rule.Rule.{Rule}
+use Rattle.vcode_base.specs.declared.op.Op.{Op}
 use Rattle.vcode_base.specs.declared.op.Op.TheVariants.{Return}
 use Rattle.vcode_base.specs.Instructions.{op_of}
 use Rattle.vcode_base.specs.Kinds.{result_kinds}
@@ -22,25 +23,33 @@ pub demand_moved : (rule : Rule) (p : Progress) → does_move (coming_in p).effe
 unfolding need
 demand_moved rule p e = grind arith
 
--- the next instruction by its effect
-counts_by : (call : Active) → result_count (effect_of (next_line call).item) ≡ length (result_kinds (op_of (next_item
-    call).item))
+-- ---- the next instruction of a call, by what it does
+
+abbrev effect_at : Active → Effect
+effect_at call = effect_of (next_line call).item
+
+abbrev op_at : Active → Op
+op_at call = op_of (next_item call).item
+
+counts_by : (call : Active) → result_count (effect_at call) ≡ length (result_kinds (op_at call))
 counts_by call = grind arith
 
-others_by : (call : Active) → does_move (effect_of (next_line call).item) ≡ false → is_move (op_of (next_item call).item)
-    ≡ false
+others_by : (call : Active) → does_move (effect_at call) ≡ false → is_move (op_at call) ≡ false
 others_by call other = grind arith
 
-returns_by : (call : Active) → op_of (next_item call).item ≡ Return → does_move (effect_of (next_line call).item) ≡ true
+returns_by : (call : Active) → op_at call ≡ Return → does_move (effect_at call) ≡ true
 returns_by call is = grind arith
 
 coming_by_call : (s : State) (call : Active) (outer : List Active) → s.calls ≡ call ∷ outer →
-    (coming_in (Running s)).effect ≡ effect_of (next_line call).item
+    (coming_in (Running s)).effect ≡ effect_at call
 coming_by_call s call outer is = grind arith
 
+-- without a call nothing is executed
 none_executed : (task : Task) (s : State) (q : Progress) → s.calls ≡ [] → HasExecuted task (Running s) q → ⊥
 unfolding next_progress
 none_executed task s q none x = grind arith
+
+-- ---- the words
 
 module _ (counted : ExecutedAreCounted) (last : LastIsReturn) (task : Task) where
   first_at : (s : State) (calls : List Active) → s.calls ≡ calls → (q : Progress) → HasExecuted task (Running s) q →
@@ -55,6 +64,7 @@ module _ (counted : ExecutedAreCounted) (last : LastIsReturn) (task : Task) wher
       grind (arith, demand_moved First (Running s), coming_by_call s call outer is)
   first_at s (call ∷ outer) is Stuck x = absurd (omega (arith, x.executed))
 
+  -- by the first rule what was held before counts, and the results
   pub demand_first : (p q : Progress) → HasExecuted task p q →
       demand_in First p ≡ held_in p + made_in (coming_in p).effect q
   demand_first (Running s) q x = first_at s s.calls refl q x
@@ -73,6 +83,7 @@ module _ (counted : ExecutedAreCounted) (last : LastIsReturn) (task : Task) wher
       grind (arith, coming_by_call s call outer is)
   second_at s (call ∷ outer) is Stuck x other = absurd (omega (arith, x.executed))
 
+  -- by the second rule it is what is held afterwards
   pub demand_second : (p q : Progress) → HasExecuted task p q → does_move (coming_in p).effect ≡ false →
       demand_in Second p ≡ held_in q
   demand_second (Running s) q x other = second_at s s.calls refl q x other

@@ -13,8 +13,8 @@ use Rattle.job_profile.specs.declared.coming.Effect.{Effect}
 use Rattle.job_profile.specs.declared.coming.Effect.TheVariants as effect
 use Rattle.job_profile.specs.Walks.{lists_in, next_line_in}
 
--- The instruction of a line moves entries, calls a function or ends a call, or is an IF. Else it makes results, of which
--- PACK alone has two.
+-- The instruction of a line moves entries, calls a function, ends a call, or is an IF. Else it makes a result, and PACK
+-- makes two.
 abbrev pub effect_of : CodeItem Item → Effect
 effect_of (code_item.Do (Move motion lower upper)) = effect.Moves motion
 effect_of (code_item.Do (Call name)) = effect.Calls

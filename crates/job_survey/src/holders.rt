@@ -250,8 +250,8 @@ impl Holds {
         Ok(())
     }
 
-    /// Looks at the next instruction of a run, which is at a frame and does this: at the entries that it copies or pops,
-    /// or at its operands.
+    /// Looks at the next instruction of a run, which is at a frame and does this: at the entries that it copies or
+    /// pops, or at its operands.
     #[inline(always)]
     pub(crate) fn look(
         &mut self,

@@ -13,8 +13,8 @@ pub(crate) struct Work {
     pub(crate) results: &'static [Kind],
 }
 
-/// What the instructions of a program take and make: of each function the place of the first, and all of them, one
-/// function after the other.
+/// What the instructions of a program take and make, by their places in the code, so that a step needn't find it from
+/// the instruction. Kept are the place of the first of each function, and all of them, one function after the other.
 #[derive(Drop)]
 pub(crate) struct Works {
     firsts: Vec<usize>,
@@ -23,7 +23,7 @@ pub(crate) struct Works {
 
 impl Work {
     /// That of no instruction.
-    pub(crate) const NONE: Work = Work {
+    const NONE: Work = Work {
         operands: 0,
         results: &[],
     };
@@ -50,15 +50,18 @@ fn push_function(works: &mut Vec<Work>, function: &Function<Global>) -> Result<(
 impl Works {
     /// Those of a program.
     pub(crate) fn of(alloc: Global, program: &Program<Global>) -> Result<Works, AllocError> {
-        let (mut firsts, mut works) = (Vec::new(alloc), Vec::new(alloc));
+        let mut works = Works {
+            firsts: Vec::new(alloc),
+            works: Vec::new(alloc),
+        };
         for function in program.functions() {
-            firsts.push(works.len())?;
-            push_function(&mut works, function)?;
+            works.firsts.push(works.works.len())?;
+            push_function(&mut works.works, function)?;
         }
-        Ok(Works { firsts, works })
+        Ok(works)
     }
 
-    /// That of the instruction at a frame.
+    /// What the instruction at a frame takes and makes.
     #[inline(always)]
     pub(crate) fn at(&self, frame: Frame) -> Work {
         let Some(first) = self.firsts.get(frame.function) else {
