@@ -4,7 +4,7 @@ use crate::end::{End, Ending, end_of, with_job};
 use crate::memory_notes::push_memory_note;
 use crate::picture::Picture;
 use crate::reasons::push_reason;
-use crate::state::JobState;
+use crate::state::{JobState, Traced};
 use crate::step::{Recent, Step};
 use crate::text::Text;
 use crate::watch::Watch;
@@ -172,20 +172,20 @@ pub(crate) fn wanted_at(run: &Run<Global>, ending: Ending) -> Option<usize> {
     }
 }
 
-/// The last state of a job that ended so, at which its run is, with at most this many entries.
+/// The last state of a job that ended so, which is this one, with at most this many entries.
 ///
 /// # Errors
 ///
 /// [`AllocError`] if memory was refused.
 pub fn last_at(
     alloc: Global,
-    watch: &Watch,
+    state: &Traced<'_>,
     ending: Ending,
     most: usize,
 ) -> Result<Last, AllocError> {
-    let note = note_of(alloc, &watch.state(), ending)?;
-    let picture = Picture::of(alloc, &watch.state(), most)?;
-    let wanted = wanted_at(watch.run(), ending);
+    let note = note_of(alloc, state, ending)?;
+    let picture = Picture::of(alloc, state, most)?;
+    let wanted = wanted_at(state.run, ending);
     Ok(Last {
         picture,
         note,
@@ -201,9 +201,29 @@ fn found_again(
     end: End,
     most: usize,
 ) -> Result<(Last, Job<Global>), AllocError> {
-    let watch = Watch::again(alloc, rule, job, trail, end.steps)?;
-    let last = last_at(alloc, &watch, end.ending, most);
-    with_job(last, watch.into_job())
+    match Run::new(alloc, rule, job) {
+        Ok(mut run) => {
+            run.go_on(end.steps);
+            let last = last_of_run(alloc, &run, &trail, end.ending, most);
+            drop(trail);
+            with_job(last, run.into_job())
+        }
+        Err(error) => {
+            drop(trail);
+            Err(error)
+        }
+    }
+}
+
+/// The last state of a job that ended so, at which a run of this trail is.
+fn last_of_run(
+    alloc: Global,
+    run: &Run<Global>,
+    trail: &Trail<Global>,
+    ending: Ending,
+    most: usize,
+) -> Result<Last, AllocError> {
+    last_at(alloc, &Traced { run, trail }, ending, most)
 }
 
 /// The last state of a job that returned or spent its budget, which was seen.

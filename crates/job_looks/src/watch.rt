@@ -31,7 +31,7 @@ impl Watch {
     /// [`AllocError`] if memory was refused. The job is gone then.
     pub fn new(alloc: Global, rule: Rule, job: Job<Global>) -> Result<Watch, AllocError> {
         match Trail::new(alloc) {
-            Ok(trail) => Watch::again(alloc, rule, job, trail, 0),
+            Ok(trail) => Watch::again(alloc, rule, job, trail),
             Err(error) => {
                 drop(job);
                 Err(error)
@@ -39,7 +39,7 @@ impl Watch {
         }
     }
 
-    /// A run of a job that has executed `count` instructions, which is known to have this trail then.
+    /// A run of a job, which has executed nothing and is known to have this trail where it will be looked at.
     ///
     /// # Errors
     ///
@@ -49,13 +49,9 @@ impl Watch {
         rule: Rule,
         job: Job<Global>,
         trail: Trail<Global>,
-        count: u64,
     ) -> Result<Watch, AllocError> {
         match Uses::new(alloc, rule, job) {
-            Ok(mut uses) => {
-                uses.go_on(count);
-                Ok(Watch { uses, trail })
-            }
+            Ok(uses) => Ok(Watch { uses, trail }),
             Err(error) => {
                 drop(trail);
                 Err(error)

@@ -1,7 +1,7 @@
 //! The run of one job, in one go.
 
 ghost use Rattle.std.specs.Prelude.{◌≡◌, ◌+◌, ◌<◌, ◌≤◌, ◌↔◌, ◌^◌, [], length, slice_index_or, IsTrue, IfOk};
-ghost use Rattle.std.specs.Prelude.{MatchOption, OnOk, OnErr};
+ghost use Rattle.std.specs.Prelude.{MatchOption, OnOk, OnErr, true, false};
 ghost use Rattle.std.specs.Prelude.{option_copied, slice_get};
 ghost use Rattle.job_steps.specs.LeastLimits.{cells_in, calls_in};
 ghost use Rattle.job_steps.specs.Runs.{executed_count_in, peak_in, progress_from};
@@ -10,9 +10,9 @@ ghost use Rattle.job_steps.specs.States.{ruled};
 ghost use Rattle.job_steps.specs.Steps.{Progress};
 ghost use Rattle.job_slots.specs.Answers.{demand_in, told_demand_in, told_need_in};
 ghost use Rattle.job_profile.specs.Moves.{HasExecuted, StepsMove};
-ghost use Rattle.job_profile.specs.Walks.{AreSame, HasCome, StandAt, ending_at, ending_of, first_run, goes_on};
+ghost use Rattle.job_profile.specs.Walks.{AreSame, HasCome, HasGoneOn, StandAt, ending_at, ending_of, first_run};
+ghost use Rattle.job_profile.specs.Walks.{goes_on, lists_in, next_line_in, progress_of, tags_in};
 ghost use Rattle.job_profile.specs.Comings.{coming_in, made_in};
-ghost use Rattle.job_profile.specs.Walks.{lists_in, next_line_in, progress_of, tags_in};
 
 use crate::coming::{Coming, Effect, coming_by, does_move};
 use block_memory::BlockId;
@@ -20,8 +20,8 @@ use job_memory::JobMemory;
 use job_slots::laws::{new_is_shown, shown_are_live, shown_are_reached, shown_is_alone};
 use job_slots::{Slot, Status, Turn};
 use job_steps::laws::{
-    early_ends_end, ended_are_over, executed_are_counted, never_stuck, others_are_ready, reached,
-    steps_can_begin,
+    early_ends_end, ended_are_over, ends_once, executed_are_counted, never_stuck, others_are_ready,
+    reached, steps_can_begin,
 };
 use job_steps::{Desk, Frames, Job};
 use std::alloc::{AllocError, Allocator};
@@ -131,6 +131,26 @@ impl<A: Allocator> Run<A> {
             .slot
             .step(turn, &self.job, &mut self.blocks, &mut self.desk);
         self.goes_on()
+    }
+
+    /// Executes this many instructions, or all that are left before the end of the job, in less time than as many calls
+    /// of `step` take. A job whose run is over stays as it is. Takes no memory.
+    #[inline(never)]
+    pub fn go_on(&mut self, count: u64)
+        ensures gone { goes_on (progress_of self.old) ≡ true → HasGoneOn count self.old self.new }
+        ensures over { goes_on (progress_of self.old) ≡ false → self.new ≡ self.old }
+    {
+        shown_is_alone();
+        ended_are_over();
+        reached();
+        ends_once();
+        let _used = self.blocks.used();
+        let turn = Turn {
+            rule: self.rule,
+            number: ONLY_JOB,
+        };
+        self.slot
+            .run_for(turn, &self.job, &mut self.blocks, &mut self.desk, count);
     }
 
     /// Whether the job goes on.

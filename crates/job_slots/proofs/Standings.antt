@@ -1,6 +1,6 @@
 -- The standing in which a begin, a commit, or a step in one go leaves a job.
 use Rattle.std.proofs.Common.{◌≡◌, ℕ, List, Some, ap, arith, rules, ◌≤◌, cond, Option, None, sym, ◌∙◌, ◌+◌, ◌<◌, Bool}
-use Rattle.std.proofs.Common.{true, false, [], ◌∷◌, length, refl, suc, ◌-◌}
+use Rattle.std.proofs.Common.{true, false, [], ◌∷◌, length, refl, subst, suc, ◌-◌}
 use Rattle.std.proofs.lemmas.List.{length-set, get_or-set_same}
 use Rattle.job_memory.specs.JobBlocks.{JobBlocks, own_slots, with_grant, ChangesOnlyOf, grant_of}
 use Rattle.job_steps.specs.Runs.{state_after}
@@ -21,7 +21,8 @@ use Rattle.job_steps.specs.StepLaws.{StepsCanBegin}
 use Rattle.job_steps.specs.Steps.{Ending, Running, Progress, Over, Stuck, next_item}
 use Rattle.job_steps.specs.Tickets.{Asked}
 use Rattle.job_slots.specs.Answers.{early_end_at, or_same, standing_after_step, CanStep, Fits, IsEnding, TakesStep}
-use Rattle.job_slots.specs.Answers.{question_at, line_at, line_before, is_live, EndsByStep, HasRun}
+use Rattle.job_slots.specs.Answers.{question_at, line_at, line_before, is_live, EndsByStep}
+use Rattle.job_slots.specs.Answers.{HasRun, HasRunFor, StepsLead}
 use Rattle.job_slots.proofs.NextSteps.{early_end_when, is_ending}
 use Rattle.std.proofs.lemmas.Bool.Decides.{nat_tests}
 use Rattle.vcode_base.specs.declared.fault.DataFault.{DataFault}
@@ -322,14 +323,25 @@ module _ (number : ℕ) (task : Task) (n : ℕ) (on : Bool) where
 
 -- ======== a job that is run until it is over
 
--- after some steps from a slot and its blocks on the job goes on
-pub record IsOnRun (number : ℕ) (task : Task) (first : SlotState) (before : JobBlocks) (slot : SlotState)
+-- after this many steps from a slot and its blocks on the job goes on
+pub record IsOnRun (number : ℕ) (task : Task) (first : SlotState) (before : JobBlocks) (steps : ℕ) (slot : SlotState)
     (blocks : JobBlocks) : Type 0 where
   pub on : GoesOn number blocks task slot
   pub others : ChangesOnlyOf number before blocks
   pub tidy : IsTidy blocks.memory
-  pub from_first : (new : Standing) → HasRun number task (standing_of slot) new →
-      HasRun number task (standing_of first) new
+  pub from_first : (more : ℕ) (new : Standing) → StepsLead more number task (standing_of slot) new →
+      StepsLead (steps + more) number task (standing_of first) new
+
+-- before the first step
+pub first_on : (number : ℕ) (task : Task) (slot : SlotState) (blocks : JobBlocks) → GoesOn number blocks task slot →
+    ChangesOnlyOf number blocks blocks → IsTidy blocks.memory → IsOnRun number task slot blocks 0 slot blocks
+first_on number task slot blocks on others tidy =
+    record {
+      on = on;
+      others = others;
+      tidy = tidy;
+      from_first = λ more new lead. subst (λ k. StepsLead k number task (standing_of slot) new) (omega arith) lead;
+    }
 
 -- ---- a step
 
@@ -338,13 +350,14 @@ is_live_at : (slot : SlotState) (step : ℕ) → standing_of slot ≡ Live step 
 is_live_at slot step e = grind arith
 
 -- the step was executed
-pub record HasStepped (number : ℕ) (task : Task) (first : SlotState) (before : JobBlocks) (slot : SlotState)
-    (new : SlotState) (blocks : JobBlocks) : Type 0 where
-  pub on : IsOnRun number task first before new blocks
+pub record HasStepped (number : ℕ) (task : Task) (first : SlotState) (before : JobBlocks) (steps : ℕ)
+    (slot : SlotState) (new : SlotState) (blocks : JobBlocks) : Type 0 where
+  pub on : IsOnRun number task first before (steps + 1) new blocks
   pub less : task.limits.budget - new.trace.executed < task.limits.budget - slot.trace.executed
 
-module _ (number : ℕ) (task : Task) (first : SlotState) (before : JobBlocks) (slot : SlotState) (old : JobBlocks)
-    (new : SlotState) (blocks : JobBlocks) (on : IsOnRun number task first before slot old) where
+module _ (number : ℕ) (task : Task) (first : SlotState) (before : JobBlocks) (steps : ℕ) (slot : SlotState)
+    (old : JobBlocks) (new : SlotState) (blocks : JobBlocks)
+    (on : IsOnRun number task first before steps slot old) where
   abbrev step : ℕ
   step = slot.trace.executed
 
@@ -356,7 +369,7 @@ module _ (number : ℕ) (task : Task) (first : SlotState) (before : JobBlocks) (
   was_live = ap (λ (s : Status). is_live (standing_by s step)) on.on.live
 
   pub on_next : ChangesJoin → Reaches → TakesStep number task step old new blocks true → IsTidy blocks.memory →
-      HasStepped number task first before slot new blocks
+      HasStepped number task first before steps slot new blocks
   on_next join reaches took tidy =
       let at = is_live_at new (step + 1) (took.standing ∙ led number task step true old new blocks took) in
       let after = took.on refl in
@@ -366,14 +379,45 @@ module _ (number : ℕ) (task : Task) (first : SlotState) (before : JobBlocks) (
           on = after;
           others = (join number).both before old blocks on.others took.others;
           tidy = tidy;
-          from_first = λ last run. on.from_first last (suc run.0, (was_live, (rw (← stands_after true took) run.1)));
+          from_first = λ more last lead.
+              subst (λ k. StepsLead k number task (standing_of first) last) (omega arith)
+              (on.from_first (suc more) last (was_live, (rw (← stands_after true took) lead)));
         };
         less = omega (arith, at.1, is.budget);
       }
 
+  has_led : TakesStep number task step old new blocks false →
+      StepsLead (steps + 1) number task (standing_of first) (standing_of new)
+  has_led took = on.from_first 1 (standing_of new) (was_live, stands_after false took)
+
   pub has_run : TakesStep number task step old new blocks false →
       HasRun number task (standing_of first) (standing_of new)
-  has_run took = on.from_first (standing_of new) (1, (was_live, stands_after false took))
+  has_run took = (steps + 1, has_led took)
+
+  -- fewer steps than so many end it
+  pub has_run_for : (count : ℕ) → steps < count → TakesStep number task step old new blocks false →
+      HasRunFor count number task (standing_of first) (standing_of new)
+  has_run_for count within took = record {
+    steps = steps + 1;
+    lead = has_led took;
+    within = omega (arith, within);
+    all = λ live. absurd (let h : false ≡ true = took.answer ∙ live in cc);
+  }
+
+-- so many steps lead to a slot that goes on, whose track is settled then
+pub has_run_on : {number : ℕ} {task : Task} {first : SlotState} {before : JobBlocks} {steps : ℕ} {slot : SlotState}
+    {blocks : JobBlocks} → IsOnRun number task first before steps slot blocks → (count : ℕ) → steps ≡ count →
+    (new : SlotState) → new.status ≡ status.Live → new.trace.executed ≡ slot.trace.executed →
+    HasRunFor count number task (standing_of first) (standing_of new)
+has_run_on {number = number} {task = task} {first = first} {steps = steps} {slot = slot} on count is new live same =
+    let stands : standing_of new ≡ standing_of slot = grind (arith, on.on.live) in
+    record {
+      steps = count;
+      lead = subst (λ k. StepsLead k number task (standing_of first) (standing_of new)) (omega (arith, is))
+          (on.from_first 0 (standing_of new) stands);
+      within = omega arith;
+      all = λ live. refl;
+    }
 
 -- ======== what the calls of a slot cite
 

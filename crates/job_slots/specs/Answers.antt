@@ -272,6 +272,13 @@ StepsLead (suc count) job task old new =
 abbrev pub HasRun : ℕ → Task → (old new : Standing) → Type 0
 HasRun job task old new = (count : ℕ) × StepsLead count job task old new
 
+-- so many steps lead it there, or fewer, after which it isn't live
+pub record HasRunFor (count job : ℕ) (task : Task) (old new : Standing) : Type 0 where
+  pub steps : ℕ
+  pub lead : StepsLead steps job task old new
+  pub within : steps ≤ count
+  pub all : is_live new ≡ true → steps ≡ count
+
 -- ---- results
 
 -- these are the instruction, its flow and the results of what a step asks

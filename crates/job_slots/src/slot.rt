@@ -26,7 +26,8 @@ ghost use Rattle.job_slots.specs.Slots.{GoesOn, Shows, Leaves, IsNewSlot, IsRetu
 ghost use Rattle.job_slots.specs.Slots.{HasNumbersOnRun, MayEnd, SlotState, recalled_slot};
 ghost use Rattle.job_slots.specs.Answers.{Begins, IsPutOff, Finishes, Fits, IsEnding, is_ended, is_in_flight, HasRun};
 ghost use Rattle.job_slots.specs.Answers.{is_live, or_same, question_at, standing_after_begun, standing_after_finished};
-ghost use Rattle.job_slots.specs.Answers.{CanStep, Steps, TakesStep, IsPassedOver, after_stepped, standing_after_step};
+ghost use Rattle.job_slots.specs.Answers.{CanStep, HasRunFor, Steps, TakesStep, IsPassedOver, after_stepped};
+ghost use Rattle.job_slots.specs.Answers.{standing_after_step};
 
 use crate::answer::{Begun, Compare, Finished, Stepped};
 use crate::class::{self, Class};
@@ -352,6 +353,46 @@ impl<A: Allocator> Slot<A> {
             // By its type a memory has no block that no reference names.
             let _used = blocks.used();
         }
+    }
+
+    /// Carries out `count` instructions of the job, if it is live, or all that are left before it is over. The desk,
+    /// which has at least the job's words, is lent for their results. Takes no memory.
+    ///
+    /// Wherever the job may lead there have to be numbers for two blocks more.
+    #[inline(always)]
+    pub fn run_for(
+        &mut self,
+        turn: Turn,
+        job: &Job<A>,
+        blocks: &mut JobMemory<A>,
+        desk: &mut Desk<A>,
+        count: u64,
+    )
+        requires shows { Shows turn.number blocks.old (ruled turn.rule job.now) self.old }
+        requires numbers { HasNumbersOnRun turn.number (ruled turn.rule job.now) blocks.old }
+        requires enough { job.now.limits.words ≤ desk.old }
+        ensures ran { is_live (standing_of self.old) ≡ true
+            → HasRunFor count turn.number (ruled turn.rule job.now) (standing_of self.old) (standing_of self.new) }
+        ensures unchanged { is_live (standing_of self.old) ≡ false → self.new ≡ self.old }
+        ensures shows { Shows turn.number blocks.new (ruled turn.rule job.now) self.new }
+        ensures others { ChangesOnlyOf turn.number blocks.old blocks.new }
+        ensures desk { desk.new ≡ desk.old }
+    {
+        changes_join();
+        reached();
+        match self.status {
+            Status::Live => {}
+            Status::Waiting | Status::InFlight | Status::Ended | Status::Collected => return,
+        }
+        let _used = blocks.used();
+        for _ in 0..count {
+            if !self.settle_and_step(turn, job, blocks, desk) {
+                return;
+            }
+            // By its type a memory has no block that no reference names.
+            let _used = blocks.used();
+        }
+        self.settle(turn, job, blocks);
     }
 
     /// Settles the track of a job that goes on, and carries out its next instruction: true if it goes on after it.

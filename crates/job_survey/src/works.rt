@@ -50,15 +50,12 @@ fn push_function(works: &mut Vec<Work>, function: &Function<Global>) -> Result<(
 impl Works {
     /// Those of a program.
     pub(crate) fn of(alloc: Global, program: &Program<Global>) -> Result<Works, AllocError> {
-        let mut works = Works {
-            firsts: Vec::new(alloc),
-            works: Vec::new(alloc),
-        };
+        let (mut firsts, mut works) = (Vec::new(alloc), Vec::new(alloc));
         for function in program.functions() {
-            works.firsts.push(works.works.len())?;
-            push_function(&mut works.works, function)?;
+            firsts.push(works.len())?;
+            push_function(&mut works, function)?;
         }
-        Ok(works)
+        Ok(Works { firsts, works })
     }
 
     /// What the instruction at a frame takes and makes.

@@ -74,7 +74,7 @@ fn push_run(
 ) -> Result<Last, AllocError> {
     let wanted = levels.go_to(&mut watch.uses, end.steps)?;
     push_levels(text, &levels, wanted);
-    last_at(alloc, watch, end.ending, MOST_ENTRIES)
+    last_at(alloc, &watch.state(), end.ending, MOST_ENTRIES)
 }
 
 /// Adds the member for the entries or calls of a job over time. The job is run again for that. Answers its last state,
@@ -87,7 +87,7 @@ fn push_again(
     levels: Levels,
     end: End,
 ) -> Result<(BeforeEnd, Job<Global>), AllocError> {
-    let mut watch = Watch::again(alloc, rule, job, trail, 0)?;
+    let mut watch = Watch::again(alloc, rule, job, trail)?;
     let pushed = push_run(text, alloc, levels, &mut watch, end);
     let (last, job) = with_job(pushed, watch.into_job())?;
     Ok((BeforeEnd::Noted(last), job))
