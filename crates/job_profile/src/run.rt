@@ -366,7 +366,8 @@ impl<A: Allocator> Run<A> {
         if !self.goes_on() {
             return None;
         }
-        Some(self.slot.track().line(self.job.verified().program()))
+        let track = self.slot.track();
+        Some(track.line(track.function(self.job.verified().program())))
     }
 
     /// What the next instruction does, and its line.

@@ -1,12 +1,14 @@
 -- The standing in which a begin, a commit, or a step in one go leaves a job.
 use Rattle.std.proofs.Common.{◌≡◌, ℕ, List, Some, ap, arith, rules, ◌≤◌, cond, Option, None, sym, ◌∙◌, ◌+◌, ◌<◌, Bool}
-use Rattle.std.proofs.Common.{true, false, [], ◌∷◌, length, refl, subst, suc, ◌-◌}
+use Rattle.std.proofs.Common.{true, false, [], ◌∷◌, length, refl, slice_get, subst, suc, ◌-◌, ◌*◌, if◌then◌else◌}
 use Rattle.std.proofs.lemmas.List.{length-set, get_or-set_same}
 use Rattle.job_memory.specs.JobBlocks.{JobBlocks, own_slots, with_grant, ChangesOnlyOf, grant_of}
 use Rattle.job_steps.specs.Runs.{state_after}
 use Rattle.job_steps.specs.States.{Task, first_state, Active, State}
 use Rattle.job_steps.specs.Tracks.{TrackState, functions_of}
 use Rattle.job_slots.specs.declared.status.Status.TheVariants.{Waiting}
+use Rattle.job_slots.specs.Courses.{Turns}
+use Rattle.job_slots.specs.declared.course.Course.TheVariants.{Within, Across, Settled}
 use Rattle.job_slots.specs.Laws.{RecalledIsShown}
 use Rattle.job_slots.specs.Slots.{SlotState, Shows, IsRunningSlot, IsWaitingSlot, IsFlyingSlot, standing_of, IsAfter}
 use Rattle.job_slots.specs.Slots.{GoesOn}
@@ -15,7 +17,11 @@ use Rattle.job_slots.proofs.Cells.{none_held}
 use Rattle.std.specs.Prelude.{is_some}
 use Rattle.job_steps.specs.Events.{next_standing, early_end, standing_after}
 use Rattle.job_steps.specs.declared.frame.Frame.{Frame}
-use Rattle.job_steps.specs.Frames.{AreActive, IsSettled, StandAll}
+use Rattle.vcode_reader.specs.declared.line.CodeItem.{CodeItem}
+use Rattle.vcode_reader.specs.declared.line.CodeItem.TheVariants as code_item
+use Rattle.vcode_reader.specs.Trees.{CodeLine, Function, Item}
+use Rattle.job_steps.specs.Frames.{AreActive, Functions, IsInnermost, IsSettled, IsStop, StandAll}
+use Rattle.job_steps.specs.Frames.{StopAt, begin_passed, is_passed, is_passing, lines_ahead}
 use Rattle.job_steps.specs.Standings.{Standing, Live, InFlight, Ended}
 use Rattle.job_steps.specs.StepLaws.{StepsCanBegin}
 use Rattle.job_steps.specs.Steps.{Ending, Running, Progress, Over, Stuck, next_item}
@@ -145,6 +151,50 @@ pub settled_shows : (number : ℕ) (blocks : JobBlocks) (task : Task) (inside sl
     StandAll (functions_of task.verified) frames calls) → IsSettled (functions_of task.verified) frames →
     Shows number blocks task (record inside { trace = record inside.trace { frames = frames } })
 settled_shows number blocks task inside slot frames same on stand settled = grind arith
+
+-- ---- where nothing is passed over
+
+item_stops : (item : CodeItem Item) → is_passed item ≡ false → IsStop item
+item_stops (code_item.Do i) clear = tt
+item_stops code_item.If clear = tt
+item_stops code_item.Else clear = absurd (let h : true ≡ false = clear in cc)
+item_stops code_item.Endif clear = absurd (let h : true ≡ false = clear in cc)
+
+lines_stop : (lines : List CodeLine) → begin_passed lines ≡ false → StopAt lines
+lines_stop [] clear = tt
+lines_stop (x ∷ lines) clear = item_stops x.item clear
+
+frames_settled : (fs : Functions) (frames : List Frame) (f : Function) → IsInnermost fs frames f →
+    is_passing f frames ≡ false → IsSettled fs frames
+frames_settled fs [] f is clear = tt
+frames_settled fs (x ∷ frames) f is clear =
+    let found : slice_get fs x.function ≡ Some f = grind (arith, is.found, is.function_is) in
+    rw found (lines_stop (lines_ahead f x) clear)
+
+-- so the slot shows the job
+pub clear_shows : (number : ℕ) (blocks : JobBlocks) (task : Task) (slot : SlotState) (f : Function) →
+    GoesOn number blocks task slot → IsInnermost (functions_of task.verified) slot.trace.frames f →
+    is_passing f slot.trace.frames ≡ false → Shows number blocks task slot
+clear_shows number blocks task slot f on is clear =
+    settled_shows number blocks task slot slot slot.trace.frames refl on (λ calls stand. stand)
+    (frames_settled (functions_of task.verified) slot.trace.frames f is clear)
+
+-- the other way round
+stop_clear : (lines : List CodeLine) → StopAt lines → begin_passed lines ≡ false
+stop_clear [] stop = refl
+stop_clear (x ∷ lines) stop = stop_item x.item stop where
+  stop_item : (item : CodeItem Item) → IsStop item → is_passed item ≡ false
+  stop_item (code_item.Do i) stop = refl
+  stop_item code_item.If stop = refl
+  stop_item code_item.Else stop = absurd stop
+  stop_item code_item.Endif stop = absurd stop
+
+pub settled_clear : (fs : Functions) (frames : List Frame) (f : Function) → IsInnermost fs frames f →
+    IsSettled fs frames → is_passing f frames ≡ false
+settled_clear fs [] f is settled = refl
+settled_clear fs (x ∷ frames) f is settled =
+    let found : slice_get fs x.function ≡ Some f = grind (arith, is.found, is.function_is) in
+    stop_clear (lines_ahead f x) (rw found at settled)
 
 -- ======== the slot of a job after a step that was committed
 
@@ -394,7 +444,7 @@ module _ (number : ℕ) (task : Task) (first : SlotState) (before : JobBlocks) (
       HasRun number task (standing_of first) (standing_of new)
   has_run took = (steps + 1, has_led took)
 
-  -- fewer steps than so many end it
+  -- fewer than `count` steps end it
   pub has_run_for : (count : ℕ) → steps < count → TakesStep number task step old new blocks false →
       HasRunFor count number task (standing_of first) (standing_of new)
   has_run_for count within took = record {
@@ -404,7 +454,70 @@ module _ (number : ℕ) (task : Task) (first : SlotState) (before : JobBlocks) (
     all = λ live. absurd (let h : false ≡ true = took.answer ∙ live in cc);
   }
 
--- so many steps lead to a slot that goes on, whose track is settled then
+-- ---- a turn of the loop of a run
+
+-- how far the run is from its end, with a turn more to settle its track
+abbrev pub turns_left : Task → Function → SlotState → ℕ
+turns_left task f slot =
+    2 * (task.limits.budget - slot.trace.executed) + (if is_passing f slot.trace.frames then 1 else 0)
+
+-- `steps` steps lead to a slot that goes on, whose innermost call is of function `g`, and fewer turns are left than at
+-- the slot before, where it was of `f`.
+pub record HasTurned (number : ℕ) (task : Task) (first : SlotState) (before : JobBlocks) (f g : Function)
+    (slot : SlotState) (steps : ℕ) (new : SlotState) (blocks : JobBlocks) : Type 0 where
+  pub on : IsOnRun number task first before steps new blocks
+  pub less : turns_left task g new < turns_left task f slot
+  pub inner : IsInnermost (functions_of task.verified) new.trace.frames g
+
+few_passing : (b : Bool) → (if b then 1 else 0) ≤ 1
+few_passing true = omega arith
+few_passing false = omega arith
+
+module _ (number : ℕ) (task : Task) (first : SlotState) (before : JobBlocks) (f g : Function) (steps : ℕ)
+    (slot : SlotState) (old : JobBlocks) (new : SlotState) (blocks : JobBlocks)
+    (on : IsOnRun number task first before steps slot old) where
+  -- a step was executed
+  pub turned_across : ChangesJoin → Reaches → IsTidy blocks.memory → Turns Across number task f slot old new blocks →
+      IsInnermost (functions_of task.verified) new.trace.frames g →
+      HasTurned number task first before f g slot (steps + 1) new blocks
+  turned_across join reaches tidy took inner =
+      let step = on_next number task first before steps slot old new blocks on join reaches took tidy in
+      record {
+        on = step.on;
+        less = omega (arith, step.less, few_passing (is_passing g new.trace.frames));
+        inner = inner;
+      }
+
+  -- and the innermost call is of the same function
+  pub turned_within : ChangesJoin → Reaches → IsTidy blocks.memory → Turns Within number task f slot old new blocks →
+      IsInnermost (functions_of task.verified) slot.trace.frames g →
+      HasTurned number task first before f g slot (steps + 1) new blocks
+  turned_within join reaches tidy took inner =
+      turned_across join reaches tidy took.0
+      (record { place = inner.place; function_is = took.1 ∙ inner.function_is; found = inner.found })
+
+  same_standing : Turns Settled number task f slot old new blocks → standing_of new ≡ standing_of slot
+  same_standing passed = grind (arith, passed.live, on.on.live, passed.same_count)
+
+  -- the track was settled
+  pub turned_settled : Turns Settled number task f slot old new blocks →
+      IsInnermost (functions_of task.verified) new.trace.frames g →
+      HasTurned number task first before f g slot steps new blocks
+  turned_settled passed inner =
+      let settled = (runs number blocks task new passed.shows passed.live).settled in
+      let clear = settled_clear (functions_of task.verified) new.trace.frames g inner settled in
+      record {
+        on = record {
+          on = shown_goes_on number blocks task new passed.shows passed.live;
+          others = rw passed.same_blocks on.others;
+          tidy = rw passed.same_blocks on.tidy;
+          from_first = λ more last lead. on.from_first more last (rw (same_standing passed) at lead);
+        };
+        less = grind (arith, clear, passed.was, passed.same_count);
+        inner = inner;
+      }
+
+-- `count` steps lead to a slot that goes on, whose track is settled then
 pub has_run_on : {number : ℕ} {task : Task} {first : SlotState} {before : JobBlocks} {steps : ℕ} {slot : SlotState}
     {blocks : JobBlocks} → IsOnRun number task first before steps slot blocks → (count : ℕ) → steps ≡ count →
     (new : SlotState) → new.status ≡ status.Live → new.trace.executed ≡ slot.trace.executed →

@@ -272,7 +272,7 @@ StepsLead (suc count) job task old new =
 abbrev pub HasRun : ℕ → Task → (old new : Standing) → Type 0
 HasRun job task old new = (count : ℕ) × StepsLead count job task old new
 
--- so many steps lead it there, or fewer, after which it isn't live
+-- `count` steps lead it there, or fewer, after which it isn't live
 pub record HasRunFor (count job : ℕ) (task : Task) (old new : Standing) : Type 0 where
   pub steps : ℕ
   pub lead : StepsLead steps job task old new

@@ -2,6 +2,7 @@ pub mod Holdings
 pub mod Slots
 pub mod Answers
 pub mod Commits
+pub mod Courses
 pub mod Copies
 pub mod Laws
 pub mod Lines

@@ -9,6 +9,8 @@ ghost use Rattle.refcounts.specs.SharedState.{AreLive, block_count, empty_slot, 
 ghost use Rattle.job_memory.specs.JobBlocks.{IsJob, HasGrant, AreOwn, ChangesOnlyOf, grant_of, words_of, own_slots};
 ghost use Rattle.job_memory.specs.JobBlocks.{held_words, with_block};
 ghost use Rattle.job_steps.specs.EventLaws.{IsVerified};
+ghost use Rattle.job_steps.specs.Flows.{IsWithin};
+ghost use Rattle.job_steps.specs.Frames.{function_in};
 ghost use Rattle.job_steps.specs.Motions.{operand_count, top_entries};
 ghost use Rattle.job_steps.specs.Runs.{state_after};
 ghost use Rattle.job_steps.specs.States.{ruled};
@@ -118,6 +120,7 @@ pub(crate) fn execute<C: Class, A: Allocator>(
     ensures others { ChangesOnlyOf turn.number blocks.old blocks.new }
     ensures same_grant { grant_of blocks.new turn.number ≡ grant_of blocks.old turn.number }
     ensures goes_on { (made.entry.flow ≡ Return → ⊥) → 0 < length track.new.frames }
+    ensures stays { IsWithin made.entry.op → function_in track.new.frames ≡ function_in track.old.frames }
 {
     steps_execute();
     let _used = blocks.used();

@@ -12,6 +12,8 @@ ghost use Rattle.refcounts.specs.SharedState.{block_count, slot_at};
 ghost use Rattle.job_memory.specs.JobBlocks.{AreOwn, IsJob, HasGrant, ChangesOnlyOf, grant_of, own_slots, words_of};
 ghost use Rattle.job_memory.specs.JobBlocks.{held_words};
 ghost use Rattle.job_steps.specs.EventLaws.{IsVerified};
+ghost use Rattle.job_steps.specs.Flows.{IsWithin};
+ghost use Rattle.job_steps.specs.Frames.{function_in};
 ghost use Rattle.job_steps.specs.Runs.{state_after};
 ghost use Rattle.job_steps.specs.States.{ruled};
 ghost use Rattle.job_slots.specs.Executions.{ids_in};
@@ -206,6 +208,8 @@ pub(crate) fn execute_in_place<A: Allocator>(
     ensures others { OnOk result (ChangesOnlyOf due.turn.number blocks.old blocks.new) }
     ensures same_grant { grant_of blocks.new due.turn.number ≡ grant_of blocks.old due.turn.number }
     ensures goes_on { OnOk result (0 < length track.new.frames) }
+    ensures stays { OnOk result (IsWithin due.placement.op
+        → function_in track.new.frames ≡ function_in track.old.frames) }
     ensures unchanged { OnErr result (track.new ≡ track.old) }
     ensures kept { OnErr result (KeepsReferences due.turn.number blocks.old blocks.new) }
     ensures fault { IfErr result (λ fault.

@@ -11,6 +11,7 @@ mod answer;
 mod class;
 mod collect;
 mod commit;
+mod course;
 mod execution;
 mod in_place;
 pub mod laws;

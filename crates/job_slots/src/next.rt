@@ -89,7 +89,7 @@ pub(crate) fn next_line<'a, A: Allocator>(
     ensures { IsLineOf (ruled turn.rule job.now) track.now result }
 {
     steps_can_begin::<BlockId>();
-    track.line(job.verified().program())
+    track.line(track.function(job.verified().program()))
 }
 
 /// The next instruction of a job that runs, which is this one, and no `CONST`.

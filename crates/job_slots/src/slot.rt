@@ -10,12 +10,15 @@ ghost use Rattle.job_memory.specs.JobBlocks.{HasGrant, ChangesOnlyOf, granted_wo
 ghost use Rattle.job_steps.specs.declared.event.Event.TheVariants as event;
 ghost use Rattle.job_steps.specs.EventLaws.{IsVerified};
 ghost use Rattle.job_steps.specs.Events.{next_standing};
+ghost use Rattle.job_steps.specs.Frames.{IsInnermost, function_in, is_passed, is_passing};
 ghost use Rattle.job_steps.specs.Runs.{outcome, peak, state_after};
 ghost use Rattle.job_steps.specs.Standings.{Live, InFlight, Ended};
 ghost use Rattle.job_steps.specs.States.{ruled};
+ghost use Rattle.job_steps.specs.Tracks.{functions_of};
+ghost use Rattle.job_slots.specs.Courses.{Stays, Turns};
 ghost use Rattle.job_slots.specs.Answers.{EndsByStep, demand_in, early_end_at, line_at, told_demand_in, told_need_in};
 ghost use Rattle.job_slots.specs.Executions.{IsMade};
-ghost use Rattle.job_slots.specs.Lines.{HasNoOperands, IsListOfNext, IsOpOfNext};
+ghost use Rattle.job_slots.specs.Lines.{HasNoOperands, IsLineOf, IsListOfNext, IsOpOfNext};
 ghost use Rattle.job_slots.specs.declared.status.Status.TheVariants as status;
 ghost use Rattle.job_slots.specs.declared.answer.Finished.TheVariants as finished;
 ghost use Rattle.job_slots.specs.declared.answer.Compare.TheVariants as compared;
@@ -33,8 +36,9 @@ use crate::answer::{Begun, Compare, Finished, Stepped};
 use crate::class::{self, Class};
 use crate::collect::results;
 use crate::commit::{Made, execute, made_in_flight};
+use crate::course::Course;
 use crate::in_place::{Due, Placement, execute_in_place, placement_of};
-use crate::next::{is_asked, line_of_next, next_at, next_line, read_next};
+use crate::next::{is_asked, line_of_next, next_at, read_next};
 use crate::status::Status;
 use crate::ticket::{
     Halted, Plain, Ready, demand_of, need_of, needs_or_end, ticket_of, words_without_operands,
@@ -52,7 +56,7 @@ use std::alloc::{AllocError, Allocator};
 use std::marker::Model;
 use vcode_base::laws::results_have_needed_lengths;
 use vcode_base::{DataFault, Elementwise, Instr, Op, Outcome, Segmented, StackMove, Values};
-use vcode_reader::CodeItem;
+use vcode_reader::{CodeItem, CodeLine, Function};
 
 /// The place of a job in its run, and how it ended, once that is known.
 ///
@@ -319,11 +323,14 @@ impl<A: Allocator> Slot<A> {
         if desk.words() < job.limits().words {
             return Stepped::SmallDesk;
         }
-        if self.step_live(turn, job, blocks, desk) {
-            self.settle(turn, job, blocks);
-            Stepped::Done
-        } else {
-            Stepped::Ended
+        let function = self.function(turn, job, blocks);
+        match self.step_or_settle(turn, job, blocks, desk, function) {
+            Course::Within | Course::Across => {
+                self.settle(turn, job, blocks);
+                Stepped::Done
+            }
+            Course::Settled => unreachable!(),
+            Course::Over => Stepped::Ended,
         }
     }
 
@@ -349,7 +356,14 @@ impl<A: Allocator> Slot<A> {
             Status::Waiting | Status::InFlight | Status::Ended | Status::Collected => return,
         }
         let _used = blocks.used();
-        while self.settle_and_step(turn, job, blocks, desk) {
+        let mut function = self.function(turn, job, blocks);
+        loop {
+            match self.step_or_settle(turn, job, blocks, desk, function) {
+                Course::Within => {}
+                Course::Across => function = self.function(turn, job, blocks),
+                Course::Settled => function = self.function(turn, job, blocks),
+                Course::Over => return,
+            }
             // By its type a memory has no block that no reference names.
             let _used = blocks.used();
         }
@@ -385,9 +399,17 @@ impl<A: Allocator> Slot<A> {
             Status::Waiting | Status::InFlight | Status::Ended | Status::Collected => return,
         }
         let _used = blocks.used();
-        for _ in 0..count {
-            if !self.settle_and_step(turn, job, blocks, desk) {
-                return;
+        let mut function = self.function(turn, job, blocks);
+        let mut left = count;
+        while left > 0 {
+            match self.step_or_settle(turn, job, blocks, desk, function) {
+                Course::Within => left -= 1,
+                Course::Across => {
+                    function = self.function(turn, job, blocks);
+                    left -= 1;
+                }
+                Course::Settled => function = self.function(turn, job, blocks),
+                Course::Over => return,
             }
             // By its type a memory has no block that no reference names.
             let _used = blocks.used();
@@ -395,79 +417,93 @@ impl<A: Allocator> Slot<A> {
         self.settle(turn, job, blocks);
     }
 
-    /// Settles the track of a job that goes on, and carries out its next instruction: true if it goes on after it.
-    /// Where many steps follow one another, this takes less time than to settle after each: the step reads the same
-    /// line of code.
+    /// The function of the innermost call of a job that goes on. Where many steps follow one another, it is kept from
+    /// step to step, and found anew only after a call or a return.
     #[inline(always)]
-    fn settle_and_step(
+    fn function<'a>(&self, turn: Turn, job: &'a Job<A>, blocks: &JobMemory<A>) -> &'a Function<A>
+        requires { GoesOn turn.number blocks.now (ruled turn.rule job.now) self.now }
+        ensures { IsInnermost (functions_of job.now.verified) self.now.trace.frames result.now }
+    {
+        steps_can_begin::<BlockId>();
+        self.track.function(job.verified().program())
+    }
+
+    /// The line at which the innermost call of a job that goes on is, which is of this function.
+    #[inline(always)]
+    fn line<'a>(
+        &self,
+        turn: Turn,
+        job: &Job<A>,
+        blocks: &JobMemory<A>,
+        function: &'a Function<A>,
+    ) -> CodeLine<'a>
+        requires goes_on { GoesOn turn.number blocks.now (ruled turn.rule job.now) self.now }
+        requires function { IsInnermost (functions_of job.now.verified) self.now.trace.frames function.now }
+        ensures passed { is_passed result.item ≡ is_passing function.now self.now.trace.frames }
+        ensures line { is_passed result.item ≡ false → IsLineOf (ruled turn.rule job.now) self.now.trace result }
+        ensures shows { is_passed result.item ≡ false
+            → Shows turn.number blocks.now (ruled turn.rule job.now) self.now }
+    {
+        steps_can_begin::<BlockId>();
+        self.track.line(function)
+    }
+
+    /// Carries out the next instruction of a job that goes on, by its class, if the innermost call, which is of this
+    /// function, is at it. Else it settles the track.
+    #[inline(always)]
+    fn step_or_settle(
         &mut self,
         turn: Turn,
         job: &Job<A>,
         blocks: &mut JobMemory<A>,
         desk: &mut Desk<A>,
-    ) -> bool
+        function: &Function<A>,
+    ) -> Course
         requires goes_on { GoesOn turn.number blocks.old (ruled turn.rule job.now) self.old }
+        requires function { IsInnermost (functions_of job.now.verified) self.old.trace.frames function.now }
         requires numbers { (slot : SlotState) → Shows turn.number blocks.old (ruled turn.rule job.now) slot
             → block_count blocks.old.memory + 2 ≤ length blocks.old.memory.slots }
         requires enough { job.now.limits.words ≤ desk.old }
-        ensures steps { TakesStep turn.number (ruled turn.rule job.now) self.old.trace.executed blocks.old self.new
-            blocks.new result }
+        ensures turns { Turns result turn.number (ruled turn.rule job.now) function.now self.old blocks.old self.new
+            blocks.new }
         ensures desk { desk.new ≡ desk.old }
     {
-        self.settle(turn, job, blocks);
-        self.step_live(turn, job, blocks, desk)
-    }
-
-    /// Carries out the next instruction of a job that is live, by the class of the instruction: true if it goes on
-    /// after it.
-    #[inline(always)]
-    fn step_live(
-        &mut self,
-        turn: Turn,
-        job: &Job<A>,
-        blocks: &mut JobMemory<A>,
-        desk: &mut Desk<A>,
-    ) -> bool
-        requires can { CanStep turn.number (ruled turn.rule job.now) self.old blocks.old }
-        requires enough { job.now.limits.words ≤ desk.old }
-        ensures steps { TakesStep turn.number (ruled turn.rule job.now) self.old.trace.executed blocks.old self.new
-            blocks.new result }
-        ensures desk { desk.new ≡ desk.old }
-    {
-        let line = next_line(turn, job, &self.track, blocks);
+        let line = self.line(turn, job, blocks, function);
         match &line.item {
             CodeItem::Do(Instr::Const(elements, list)) => {
-                let class = class::Constant(*elements);
-                self.step_without_operands(turn, job, blocks, class, list.as_slice())
+                let (class, list) = (class::Constant(*elements), list.as_slice());
+                Course::within(self.step_without_operands(turn, job, blocks, class, list))
             }
-            CodeItem::Do(Instr::Elementwise(Elementwise::Arith(op))) => {
-                self.step_as(turn, job, blocks, desk, *op)
+            CodeItem::Do(Instr::Elementwise(op)) => {
+                Course::within(self.step_elementwise(turn, job, blocks, desk, *op))
             }
-            CodeItem::Do(Instr::Elementwise(Elementwise::Compare(op))) => {
-                self.step_as(turn, job, blocks, desk, *op)
+            CodeItem::Do(Instr::Segmented(op)) => {
+                Course::within(self.step_segmented(turn, job, blocks, desk, *op))
             }
-            CodeItem::Do(Instr::Elementwise(op)) => { self.step_as(turn, job, blocks, desk, *op) }
-            CodeItem::Do(Instr::Segmented(op)) => self.step_segmented(turn, job, blocks, desk, *op),
             CodeItem::Do(Instr::Move(StackMove::Copy, lower, upper)) => {
                 let class = class::Copy(*lower, *upper);
-                self.step_without_operands(turn, job, blocks, class, &[])
+                Course::within(self.step_without_operands(turn, job, blocks, class, &[]))
             }
             CodeItem::Do(Instr::Move(StackMove::Pop, lower, upper)) => {
                 let class = class::Pop(*lower, *upper);
-                self.step_without_operands(turn, job, blocks, class, &[])
+                Course::within(self.step_without_operands(turn, job, blocks, class, &[]))
             }
             CodeItem::Do(Instr::Move(StackMove::MoveToTop, lower, upper)) => {
                 let class = class::MoveToTop(*lower, *upper);
-                self.step_without_operands(turn, job, blocks, class, &[])
+                Course::within(self.step_without_operands(turn, job, blocks, class, &[]))
             }
             CodeItem::Do(Instr::Call(_)) => {
-                self.step_without_operands(turn, job, blocks, class::Call, &[])
+                Course::across(self.step_without_operands(turn, job, blocks, class::Call, &[]))
             }
             CodeItem::Do(Instr::Return) => {
-                self.step_without_operands(turn, job, blocks, class::Return, &[])
+                Course::across(self.step_without_operands(turn, job, blocks, class::Return, &[]))
             }
-            CodeItem::Do(Instr::If) | CodeItem::If | CodeItem::Else | CodeItem::Endif => {
-                self.step_as(turn, job, blocks, desk, class::If)
+            CodeItem::Do(Instr::If) | CodeItem::If => {
+                Course::within(self.step_as(turn, job, blocks, desk, class::If))
+            }
+            CodeItem::Else | CodeItem::Endif => {
+                self.settle(turn, job, blocks);
+                Course::Settled
             }
         }
     }
@@ -480,9 +516,35 @@ impl<A: Allocator> Slot<A> {
         ensures shows { Shows turn.number blocks.now (ruled turn.rule job.now) self.new }
         ensures live { self.new.status ≡ status.Live }
         ensures same_count { self.new.trace.executed ≡ self.old.trace.executed }
+        ensures stays { function_in self.new.trace.frames ≡ function_in self.old.trace.frames }
     {
-        steps_can_begin::<BlockId>();
-        self.track.settle(job.verified().program());
+        let function = self.function(turn, job, blocks);
+        self.track.settle(function);
+    }
+
+    /// Carries out the next instruction of a job that is live, which is this one, by its own class.
+    #[inline(always)]
+    fn step_elementwise(
+        &mut self,
+        turn: Turn,
+        job: &Job<A>,
+        blocks: &mut JobMemory<A>,
+        desk: &mut Desk<A>,
+        op: Elementwise,
+    ) -> bool
+        requires can { CanStep turn.number (ruled turn.rule job.now) self.old blocks.old }
+        requires enough { job.now.limits.words ≤ desk.old }
+        requires next { IsOpOfNext (ruled turn.rule job.now) self.old.trace (instruction.Elementwise op) }
+        ensures steps { TakesStep turn.number (ruled turn.rule job.now) self.old.trace.executed blocks.old self.new
+            blocks.new result }
+        ensures stays { Stays (instruction.Elementwise op) self.old self.new result }
+        ensures desk { desk.new ≡ desk.old }
+    {
+        match op {
+            Elementwise::Arith(op) => self.step_as(turn, job, blocks, desk, op),
+            Elementwise::Compare(op) => self.step_as(turn, job, blocks, desk, op),
+            op => self.step_as(turn, job, blocks, desk, op),
+        }
     }
 
     /// Carries out the next instruction of a job that is live, which is this one, by its own class.
@@ -500,6 +562,7 @@ impl<A: Allocator> Slot<A> {
         requires next { IsOpOfNext (ruled turn.rule job.now) self.old.trace (instruction.Segmented op) }
         ensures steps { TakesStep turn.number (ruled turn.rule job.now) self.old.trace.executed blocks.old self.new
             blocks.new result }
+        ensures stays { Stays (instruction.Segmented op) self.old self.new result }
         ensures desk { desk.new ≡ desk.old }
     {
         match op {
@@ -539,6 +602,7 @@ impl<A: Allocator> Slot<A> {
         requires no_list { is_constant (C.among_all class) ≡ false }
         ensures steps { TakesStep turn.number (ruled turn.rule job.now) self.old.trace.executed blocks.old self.new
             blocks.new result }
+        ensures stays { Stays (C.among_all class) self.old self.new result }
         ensures desk { desk.new ≡ desk.old }
     {
         early_ends_end();
@@ -587,8 +651,9 @@ impl<A: Allocator> Slot<A> {
         requires next { IsOpOfNext (ruled turn.rule job.now) self.old.trace (C.among_all class) }
         requires list { IsListOfNext (ruled turn.rule job.now) self.old.trace list.now }
         requires no_operands { HasNoOperands (C.among_all class) }
-        ensures { TakesStep turn.number (ruled turn.rule job.now) self.old.trace.executed blocks.old self.new blocks.new
-            result }
+        ensures steps { TakesStep turn.number (ruled turn.rule job.now) self.old.trace.executed blocks.old self.new
+            blocks.new result }
+        ensures stays { Stays (C.among_all class) self.old self.new result }
     {
         steps_can_begin::<BlockId>();
         let op = class.op();
@@ -614,8 +679,9 @@ impl<A: Allocator> Slot<A> {
     fn end_early(&mut self, turn: Turn, job: &Job<A>, blocks: &mut JobMemory<A>) -> bool
         requires can { CanStep turn.number (ruled turn.rule job.now) self.old blocks.old }
         requires ends { is_some (early_end_at (ruled turn.rule job.now) self.old.trace.executed) ≡ true }
-        ensures { TakesStep turn.number (ruled turn.rule job.now) self.old.trace.executed blocks.old self.new blocks.new
-            result }
+        ensures steps { TakesStep turn.number (ruled turn.rule job.now) self.old.trace.executed blocks.old self.new
+            blocks.new result }
+        ensures over { result ≡ false }
     {
         early_ends_end();
         let next = read_next(turn, job, &self.track, blocks);
@@ -639,8 +705,9 @@ impl<A: Allocator> Slot<A> {
         requires ends { (line : ℕ) → line_at (ruled turn.rule job.now) self.old.trace.executed ≡ Some line
             → EndsByStep turn.number (ruled turn.rule job.now) self.old.trace.executed self.old.trace.peak
             (Fault fault line) }
-        ensures { TakesStep turn.number (ruled turn.rule job.now) self.old.trace.executed blocks.old self.new blocks.new
-            result }
+        ensures steps { TakesStep turn.number (ruled turn.rule job.now) self.old.trace.executed blocks.old self.new
+            blocks.new result }
+        ensures over { result ≡ false }
     {
         let line = line_of_next(turn, job, &self.track, blocks);
         self.end_by_step(turn, job, blocks, Outcome::Fault(fault, line))
@@ -660,8 +727,9 @@ impl<A: Allocator> Slot<A> {
         requires can { CanStep turn.number (ruled turn.rule job.now) self.old blocks.old }
         requires ends { EndsByStep turn.number (ruled turn.rule job.now) self.old.trace.executed self.old.trace.peak
             ending }
-        ensures { TakesStep turn.number (ruled turn.rule job.now) self.old.trace.executed blocks.old self.new blocks.new
-            result }
+        ensures steps { TakesStep turn.number (ruled turn.rule job.now) self.old.trace.executed blocks.old self.new
+            blocks.new result }
+        ensures over { result ≡ false }
     {
         self.end(turn, job, blocks, ending);
         false
@@ -682,8 +750,9 @@ impl<A: Allocator> Slot<A> {
         requires goes_on { early_end_at (ruled turn.rule job.now) self.old.trace.executed ≡ None }
         requires placeable { IsPlaceable (ruled turn.rule job.now) turn.number blocks.old self.old.trace placement }
         requires lent { length beside.old ≡ placement.second }
-        ensures { TakesStep turn.number (ruled turn.rule job.now) self.old.trace.executed blocks.old self.new blocks.new
-            result }
+        ensures steps { TakesStep turn.number (ruled turn.rule job.now) self.old.trace.executed blocks.old self.new
+            blocks.new result }
+        ensures stays { Stays placement.op self.old self.new result }
     {
         reached();
         end_is_own();
@@ -830,8 +899,9 @@ impl<A: Allocator> Slot<A> {
         requires can { CanStep turn.number (ruled turn.rule job.now) self.old blocks.old }
         requires goes_on { early_end_at (ruled turn.rule job.now) self.old.trace.executed ≡ None }
         requires made { IsMade (ruled turn.rule job.now) turn.number blocks.old self.old.trace made }
-        ensures { TakesStep turn.number (ruled turn.rule job.now) self.old.trace.executed blocks.old self.new blocks.new
-            result }
+        ensures steps { TakesStep turn.number (ruled turn.rule job.now) self.old.trace.executed blocks.old self.new
+            blocks.new result }
+        ensures stays { Stays made.entry.op self.old self.new result }
     {
         reached();
         end_is_own();

@@ -1,9 +1,9 @@
 -- The frames after an instruction.
-use Rattle.std.proofs.Common.{arith, ◌≡◌, ◌∙◌, ◌<◌, ℕ, Bool, List, [], ◌∷◌, length, drop, Option, Some, refl, sym}
+use Rattle.std.proofs.Common.{ap, arith, ◌≡◌, ◌∙◌, ◌<◌, ℕ, Bool, List, [], ◌∷◌, length, drop, Option, Some, refl, sym}
 use Rattle.std.proofs.Common.{subst}
 use Rattle.std.specs.Prelude.{slice_get, position, if◌then◌else◌, IsSome}
 use Rattle.std.specs.Str.{bytes_eq}
-use Rattle.std.proofs.lemmas.Option.{slice_get-map}
+use Rattle.std.proofs.lemmas.Option.{none-some, same_Some, slice_get-map}
 use Rattle.vcode_base.specs.declared.instr.Instr.TheVariants as instr
 use Rattle.vcode_base.specs.declared.op.Op.{Op}
 use Rattle.vcode_base.specs.declared.op.Op.TheVariants as op
@@ -20,7 +20,9 @@ use Rattle.job_steps.specs.declared.flow.Flow.TheVariants.{Next, Choose}
 use Rattle.job_steps.specs.declared.frame.Frame.{Frame}
 use Rattle.job_steps.specs.Flows.{IsFlowOf}
 use Rattle.job_steps.specs.Reached.{IsVerifiedBySome}
-use Rattle.job_steps.specs.Frames.{AreActive, IsSettled, StopAt, Stands, StandAll, lines_from, next_line}
+use Rattle.job_steps.specs.Frames.{AreActive, Functions, IsInnermost, IsOfFunction, IsSettled, StandsOf, StopAt}
+use Rattle.job_steps.specs.Frames.{Stands, StandAll}
+use Rattle.job_steps.specs.Frames.{begin_passed, is_passing, lines_ahead, lines_from, next_line}
 use Rattle.job_steps.specs.Piles.{PileState}
 use Rattle.job_steps.specs.States.{Active, Callee, callee_named, first_state}
 use Rattle.job_steps.specs.Steps.{next_item}
@@ -202,9 +204,9 @@ inner_settled verified frames frame fs top settled same = grind arith
 -- ---- lines that are passed over
 
 -- what of the innermost call is still to come
-abbrev pub lines_left : List Function → List Frame → ℕ
-lines_left fs [] = 0
-lines_left fs (frame ∷ frames) = length (lines_from fs frame)
+abbrev pub lines_left : Function → List Frame → ℕ
+lines_left f [] = 0
+lines_left f (frame ∷ frames) = length (lines_ahead f frame)
 
 -- the same calls are active
 abbrev pub StandToo : List Function → (old new : List Frame) → Type 0
@@ -214,8 +216,54 @@ pub top_active : (fs : List Function) (frames : List Frame) (frame : Frame) → 
     AreActive fs frames → (call : Active) × Stands fs frame call
 top_active fs frames frame top active = (active.0, (top_frame fs frames frame active.0 active.1 top active.2).inner)
 
--- what `line`, `main_frame` and `follow` need
-pub ruleset of_next_lines = (top_active, top_frame, stop_top, next_item_is)
+-- the innermost call is of the function of the innermost frame
+pub top_function : (fs : Functions) (frames : List Frame) (frame : Frame) (f : Function) → slice_get frames 0 ≡ Some
+    frame → slice_get fs frame.function ≡ Some f → IsInnermost fs frames f
+top_function fs [] frame f top found = absurd (none-some frame top)
+top_function fs (x ∷ frames) frame f top found = record {
+  place = frame.function;
+  function_is = ap (λ (x : Frame). Some x.function) (same_Some x frame top);
+  found = found;
+}
+
+-- and that of the innermost frame is that of the innermost call
+pub found_top : (fs : Functions) (frames : List Frame) (frame : Frame) (f : Function) → slice_get frames 0 ≡ Some
+    frame → IsInnermost fs frames f → slice_get fs frame.function ≡ Some f
+found_top fs [] frame f top is = absurd (none-some frame top)
+found_top fs (x ∷ frames) frame f top is = grind arith
+
+-- some call is active, so there is a frame
+pub some_frame : (fs : Functions) (frames : List Frame) → AreActive fs frames → 0 < length frames
+some_frame fs [] active = absurd active.2
+some_frame fs (frame ∷ frames) active = grind arith
+
+-- and if the innermost call is of some function
+pub inner_frame : (fs : Functions) (frames : List Frame) (f : Function) → IsInnermost fs frames f → 0 < length frames
+inner_frame fs [] f is = absurd (none-some is.place is.function_is)
+inner_frame fs (frame ∷ frames) f is = grind arith
+
+-- the innermost frame is at some call
+pub at_line : (fs : Functions) (frames : List Frame) (frame : Frame) (f : Function) → slice_get frames 0 ≡ Some frame →
+    IsOfFunction fs frames f → StandsOf f frame
+at_line fs frames frame f top is =
+    let active = top_active fs frames frame top is.active in
+    record {
+      functions = fs;
+      found = found_top fs frames frame f top is.innermost;
+      call = active.0;
+      stands = active.1;
+    }
+
+-- whether the innermost frame is at a line that is passed over
+pub passing_top : (frames : List Frame) (frame : Frame) (f : Function) → slice_get frames 0 ≡ Some frame →
+    begin_passed (lines_ahead f frame) ≡ is_passing f frames
+passing_top [] frame f top = absurd (none-some frame top)
+passing_top (x ∷ frames) frame f top = ap (λ y. begin_passed (lines_ahead f y)) (sym (same_Some x frame top))
+
+-- what `function`, `line`, `main_frame` and `follow` need
+pub ruleset of_functions = (top_active, top_function, some_frame)
+
+pub ruleset of_next_lines = (at_line, found_top, inner_frame, stop_top, top_frame, passing_top, next_item_is)
 
 pub ruleset of_main = (same_functions, main_is, first_stops)
 

@@ -3,7 +3,7 @@ use Rattle.vcode_reader.specs.Decode.{tail_of, then_body}
 use Rattle.std.proofs.lemmas.Grind.{common_steps}
 use Rattle.std.proofs.Common.{rules, ◌≡◌, ◌∙◌, ◌+◌, ◌<◌, ℕ, Bool, List, [], ◌∷◌, length, drop, Option, get_or, Some}
 use Rattle.std.proofs.Common.{None, ap, sym, arith, ◌++◌}
-use Rattle.std.specs.Prelude.{slice_get, if◌then◌else◌, MatchOption}
+use Rattle.std.specs.Prelude.{slice_get, if◌then◌else◌, IsSome, MatchOption}
 use Rattle.std.proofs.lemmas.List.{drop_all, drop_more}
 use Rattle.std.proofs.lemmas.Option.{slice_get_cases, slice_get_within, get_or_from_slice_get}
 use Rattle.vcode_base.specs.declared.instr.Instr.TheVariants.{Return}
@@ -12,8 +12,8 @@ use Rattle.vcode_reader.specs.Targets.{target_at, EachTargetIsFirst}
 use Rattle.vcode_reader.specs.Trees.{Item, Body, End, Do, Choice, CodeLine, Function, body_lines, instruction_line}
 use Rattle.vcode_reader.specs.Trees.{lines_of}
 use Rattle.job_steps.specs.declared.frame.Frame.{Frame}
-use Rattle.job_steps.specs.Frames.{IsStop, StopAt, Stands, remaining, lines_from, with_return, next_line}
-use Rattle.job_steps.specs.Frames.{instruction_of, lines_at}
+use Rattle.job_steps.specs.Frames.{IsStop, StandsOf, StopAt, Stands, remaining, lines_from, with_return, next_line}
+use Rattle.job_steps.specs.Frames.{begin_passed, instruction_of, is_passed, lines_at, lines_ahead}
 use Rattle.job_steps.specs.States.{Active}
 use Rattle.job_steps.specs.Steps.{next_item}
 use Rattle.job_steps.proofs.Passing.{if_chooses, else_passes, remaining_do, remaining_nothing, then_assoc}
@@ -72,6 +72,20 @@ pub line_at : (functions : List Function) (frame : Frame) (call : Active) (g : F
 unfolding then_body
 line_at functions frame call g x found s stop here =
     grind (arith, at_place, remaining_do, if_chooses)
+
+-- the line at the place of a frame in its function
+module _ (f : Function) (frame : Frame) (o : Option CodeLine) (at : StandsOf f frame)
+    (is : o ≡ slice_get (lines_of f) frame.place) where
+  pub line_some : IsSome o
+  line_some = let there = stands_at at.functions frame at.call at.stands in grind arith
+
+  module _ (x : CodeLine) (some : o ≡ Some x) where
+    pub line_in : (functions : List Function) (call : Active) → slice_get functions frame.function ≡ Some f →
+        Stands functions frame call → StopAt (lines_from functions frame) → x ≡ next_line call
+    line_in functions call found stands stop = line_at functions frame call f x found stands stop (sym some ∙ is)
+
+    pub line_passed : is_passed x.item ≡ begin_passed (lines_ahead f frame)
+    line_passed = ap begin_passed (sym (at_place (lines_of f) frame.place x (sym is ∙ some)))
 
 -- the same of the line that is found there
 pub line_found : (functions : List Function) (frame : Frame) (call : Active) (s : Stands functions frame call) →

@@ -22,6 +22,12 @@ abbrev pub choice : Flow → Bool
 choice (Choose flag) = flag
 choice _ = false
 
+-- the innermost call goes on after an instruction
+abbrev pub IsWithin : Op → Type 0
+IsWithin op.Call = ⊥
+IsWithin op.Return = ⊥
+IsWithin _ = Unit {0}
+
 -- an instruction can have this flow
 abbrev pub IsFlowOf : Op → Flow → Type 0
 IsFlowOf op flow = flow ≡ flow_by op (choice flow)

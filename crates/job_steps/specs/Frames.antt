@@ -1,5 +1,6 @@
 -- The place of an active call: a line of its function's code, and what of the function remains from there.
-use Rattle.std.specs.Prelude.{◌≡◌, ◌<◌, ℕ, List, [], ◌∷◌, ◌++◌, drop, length, Option, Some, None, slice_get}
+use Rattle.std.specs.Prelude.{◌≡◌, ◌<◌, ℕ, Bool, true, false, List, [], ◌∷◌, ◌++◌, drop, length, Option, Some, None}
+use Rattle.std.specs.Prelude.{slice_get}
 use Rattle.vcode_base.specs.declared.instr.Instr.TheVariants.{If, Return}
 use Rattle.vcode_reader.specs.declared.line.CodeItem.{CodeItem}
 use Rattle.vcode_reader.specs.declared.line.CodeItem.TheVariants as code_item
@@ -37,6 +38,17 @@ IsStop code_item.Endif = ⊥
 abbrev pub StopAt : List CodeLine → Type 0
 StopAt [] = Unit {0}
 StopAt (x ∷ xs) = IsStop x.item
+
+-- one that it passes over
+abbrev pub is_passed : CodeItem Item → Bool
+is_passed code_item.Else = true
+is_passed code_item.Endif = true
+is_passed item = false
+
+-- the lines begin with one that is passed over
+abbrev pub begin_passed : List CodeLine → Bool
+begin_passed [] = false
+begin_passed (x ∷ xs) = is_passed x.item
 
 -- the line that a body begins with, if RET follows the body
 abbrev pub first_line : Body → ℕ → CodeLine
@@ -79,10 +91,42 @@ abbrev pub IsSettled : List Function → List Frame → Type 0
 IsSettled functions [] = Unit {0}
 IsSettled functions (frame ∷ frames) = StopAt (lines_from functions frame)
 
--- a frame goes on at another, which has fewer lines to come, and as much remains
-pub record GoesOnAt (functions : List Function) (old new : Frame) : Type 0 where
-  pub same : remaining (lines_from functions new) ≡ remaining (lines_from functions old)
-  pub fewer : length (lines_from functions new) < length (lines_from functions old)
+-- the lines of a function from the place of a frame on
+abbrev pub lines_ahead : Function → Frame → List CodeLine
+lines_ahead f frame = drop frame.place (lines_of f)
+
+-- a frame goes on at another of its function, which has fewer lines to come, and as much remains
+pub record GoesOnAt (f : Function) (old new : Frame) : Type 0 where
+  pub function : new.function ≡ old.function
+  pub same : remaining (lines_ahead f new) ≡ remaining (lines_ahead f old)
+  pub fewer : length (lines_ahead f new) < length (lines_ahead f old)
+
+-- the functions of a program
+abbrev pub Functions : Type 0
+Functions = List Function
+
+-- the place of the function of the innermost call
+abbrev pub function_in : List Frame → Option ℕ
+function_in [] = None
+function_in (frame ∷ frames) = Some frame.function
+
+-- the innermost frame, which is of this function, is at a line that is passed over
+abbrev pub is_passing : Function → List Frame → Bool
+is_passing f [] = false
+is_passing f (frame ∷ frames) = begin_passed (lines_ahead f frame)
+
+-- the innermost call is of this function
+pub record IsInnermost (functions : List Function) (frames : List Frame) (f : Function) : Type 0 where
+  pub place : ℕ
+  pub function_is : function_in frames ≡ Some place
+  pub found : slice_get functions place ≡ Some f
+
+-- a frame of this function is at some call
+pub record StandsOf (f : Function) (frame : Frame) : Type 0 where
+  pub functions : List Function
+  pub found : slice_get functions frame.function ≡ Some f
+  pub call : Active
+  pub stands : Stands functions frame call
 
 -- each frame is at the call of the same index, the innermost first
 abbrev pub StandAll : List Function → List Frame → List Active → Type 0
@@ -94,6 +138,19 @@ StandAll functions (frame ∷ frames) (call ∷ calls) = Stands functions frame 
 -- some call is active
 abbrev pub AreActive : List Function → List Frame → Type 0
 AreActive functions frames = (call : Active) × (outer : List Active) × StandAll functions frames (call ∷ outer)
+
+-- some call is active, and the innermost is of this function
+pub record IsOfFunction (functions : List Function) (frames : List Frame) (f : Function) : Type 0 where
+  pub active : AreActive functions frames
+  pub innermost : IsInnermost functions frames f
+
+-- The frames are passed on, within the innermost function, to the line that is executed next: they are at the calls
+-- that they were at.
+pub record SettlesIn (f : Function) (old new : List Frame) : Type 0 where
+  pub stays : function_in new ≡ function_in old
+  pub stand : (functions : List Function) (calls : List Active) → IsInnermost functions old f →
+      StandAll functions old calls → StandAll functions new calls
+  pub settled : (functions : List Function) → IsInnermost functions old f → IsSettled functions new
 
 -- ---- what remains, line by line
 

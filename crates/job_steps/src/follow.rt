@@ -2,9 +2,10 @@
 
 ghost use Rattle.std.specs.Prelude.{◌≡◌, ◌<◌, ℕ, List, [], ◌∷◌, length, IfOk};
 ghost use Rattle.vcode_base.specs.declared.op.Op.{Op};
-ghost use Rattle.job_steps.specs.declared.flow.Flow.TheVariants.{Return};
+ghost use Rattle.job_steps.specs.declared.flow.Flow.TheVariants.{Call, Return};
 ghost use Rattle.job_steps.specs.Flows.{IsFlowOf};
-ghost use Rattle.job_steps.specs.Frames.{AreActive, IsSettled, Stands, StandAll, StopAt, lines_from};
+ghost use Rattle.job_steps.specs.Frames.{Functions, IsInnermost, IsSettled, SettlesIn, Stands, StandAll, StopAt};
+ghost use Rattle.job_steps.specs.Frames.{function_in, lines_from};
 ghost use Rattle.job_steps.specs.States.{Active, Callee, first_state};
 ghost use Rattle.job_steps.specs.Tracks.{CanFollow, Follow, IsCallOf, first_call, functions_of};
 
@@ -13,7 +14,7 @@ use crate::flow::Flow;
 use crate::frame::Frame;
 use crate::job::Job;
 use std::alloc::{AllocError, Allocator};
-use vcode_reader::Program;
+use vcode_reader::Function;
 
 /// The frame of the first line of `MAIN`, with room for as many as the job may have calls.
 pub(crate) fn first_frames<A: Allocator>(alloc: A, job: &Job<A>) -> Result<Calls<A>, AllocError>
@@ -35,16 +36,14 @@ fn main_frame<A: Allocator>(job: &Job<A>) -> Frame
     Frame::first(program.position(b"MAIN").unwrap())
 }
 
-/// Passes over each `ELSE` and `ENDIF` before the line that is executed next.
+/// Passes over each `ELSE` and `ENDIF` before the line that is executed next, which is of this function.
 #[inline(always)]
-pub(crate) fn settle<A: Allocator>(frames: &mut Calls<A>, program: &Program<A>)
-    requires { AreActive program.now.functions frames.old.entries }
+pub(crate) fn settle<A: Allocator>(frames: &mut Calls<A>, function: &Function<A>)
+    requires { (functions : Functions) × IsInnermost functions frames.old.entries function.now }
     ensures room { frames.new.room ≡ frames.old.room }
-    ensures stand { (calls : List Active) → StandAll program.now.functions frames.old.entries calls
-        → StandAll program.now.functions frames.new.entries calls }
-    ensures settled { IsSettled program.now.functions frames.new.entries }
+    ensures settles { SettlesIn function.now frames.old.entries frames.new.entries }
 {
-    while let Some(frame) = frames.innermost().passed(program) {
+    while let Some(frame) = frames.innermost().passed(function) {
         frames.go_on_at(frame);
     }
 }
@@ -58,6 +57,8 @@ pub(crate) fn follow<A: Allocator>(frames: &mut Calls<A>, job: &Job<A>, flow: Fl
     ensures room { frames.new.room ≡ frames.old.room }
     ensures frames { Follow job.now.verified flow frames.old.entries frames.new.entries }
     ensures goes_on { (flow ≡ Return → ⊥) → 0 < length frames.new.entries }
+    ensures stays { (flow ≡ Call → ⊥) → (flow ≡ Return → ⊥)
+        → function_in frames.new.entries ≡ function_in frames.old.entries }
 {
     let program = job.verified().program();
     let frame = frames.innermost();

@@ -4,7 +4,8 @@ ghost use Rattle.std.specs.Prelude.{◌≡◌, ◌+◌, ◌<◌, ℕ, drop, leng
 ghost use Rattle.std.specs.List.{slice_get};
 ghost use Rattle.vcode_reader.specs.Decode.{then_body};
 ghost use Rattle.vcode_reader.specs.Trees.{Item, Body, Do, Choice, lines_of};
-ghost use Rattle.job_steps.specs.Frames.{GoesOnAt, StopAt, Stands, lines_from, remaining, next_line};
+ghost use Rattle.job_steps.specs.Frames.{Functions, GoesOnAt, StandsOf, StopAt, Stands, begin_passed, is_passed};
+ghost use Rattle.job_steps.specs.Frames.{lines_ahead, lines_from, next_line, remaining};
 ghost use Rattle.job_steps.specs.States.{Active};
 
 use std::alloc::Allocator;
@@ -30,26 +31,23 @@ impl Frame {
         Frame { function, place: 0 }
     }
 
-    /// Its line, which is executed next.
-    #[tactic(auto, using(crate::proofs::Standing::line_at))]
+    /// Its line, among those of its function.
     #[inline(always)]
-    pub(crate) fn line<'a, A: Allocator>(self, program: &'a Program<A>) -> CodeLine<'a>
-        requires stands { (call : Active) × Stands program.now.functions self call }
-        requires settled { StopAt (lines_from program.now.functions self) }
-        ensures { (call : Active) → Stands program.now.functions self call → result ≡ next_line call }
+    pub(crate) fn line<'a, A: Allocator>(self, function: &'a Function<A>) -> CodeLine<'a>
+        requires { StandsOf function.now self }
+        ensures line { (functions : Functions) (call : Active) → slice_get functions self.function ≡ Some function.now
+            → Stands functions self call → StopAt (lines_from functions self) → result ≡ next_line call }
+        ensures passed { is_passed result.item ≡ begin_passed (lines_ahead function.now self) }
     {
-        self.function(program).item(self.place).unwrap()
+        function.item(self.place).unwrap()
     }
 
-    /// The frame at which an `ELSE` or an `ENDIF` goes on, which is passed over.
+    /// The frame at which an `ELSE` or an `ENDIF` of its function goes on, which is passed over.
     #[inline(always)]
-    pub(crate) fn passed<A: Allocator>(self, program: &Program<A>) -> Option<Frame>
-        requires { (call : Active) × Stands program.now.functions self call }
-        ensures { MatchOption result
-            (StopAt (lines_from program.now.functions self))
-            (λ next. GoesOnAt program.now.functions self next) }
+    pub(crate) fn passed<A: Allocator>(self, function: &Function<A>) -> Option<Frame>
+        ensures { MatchOption result (StopAt (lines_ahead function.now self)) (GoesOnAt function.now self) }
     {
-        match passed(self.function(program), self.place) {
+        match passed(function, self.place) {
             Some(place) => Some(Frame {
                 function: self.function,
                 place,
@@ -64,9 +62,10 @@ impl Frame {
     pub(crate) fn next<A: Allocator>(self, program: &Program<A>) -> Frame
         requires stands { (call : Active) × Stands program.now.functions self call }
         requires settled { StopAt (lines_from program.now.functions self) }
-        ensures { (item : Item) (line ret : ℕ) (rest : Body)
+        ensures stands { (item : Item) (line ret : ℕ) (rest : Body)
             → Stands program.now.functions self (record { rest = Do item line rest; ret = ret })
             → Stands program.now.functions result (record { rest = rest; ret = ret }) }
+        ensures stays { result.function ≡ self.function }
     {
         let function = self.function(program);
         Frame {
@@ -81,10 +80,11 @@ impl Frame {
     pub(crate) fn chosen<A: Allocator>(self, program: &Program<A>, flag: bool) -> Frame
         requires stands { (call : Active) × Stands program.now.functions self call }
         requires settled { StopAt (lines_from program.now.functions self) }
-        ensures { (line end ret : ℕ) (first second rest : Body)
+        ensures stands { (line end ret : ℕ) (first second rest : Body)
             → Stands program.now.functions self (record { rest = Choice line first second end rest; ret = ret })
             → Stands program.now.functions result
             (record { rest = then_body (if flag then first else second) rest; ret = ret }) }
+        ensures stays { result.function ≡ self.function }
     {
         let function = self.function(program);
         Frame {
@@ -96,7 +96,7 @@ impl Frame {
     /// Its function, which has a line at its place.
     #[tactic(auto, using(crate::proofs::Standing::of_function))]
     #[inline(always)]
-    fn function<'a, A: Allocator>(self, program: &'a Program<A>) -> &'a Function<A>
+    pub(crate) fn function<'a, A: Allocator>(self, program: &'a Program<A>) -> &'a Function<A>
         requires { (call : Active) × Stands program.now.functions self call }
         ensures function { slice_get program.now.functions self.function ≡ Some result.now }
         ensures place { self.place < length (lines_of result.now) }

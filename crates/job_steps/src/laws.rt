@@ -66,8 +66,8 @@ pub fn results_have_kinds()
     ensures { ResultsHaveKinds }
 {}
 
-/// What counted at an instruction that was executed follows from what is held afterwards, and by the first rule from
-/// what was held before and from the results. Only a RET that is executed ends a run.
+/// What counted at an instruction that was executed: by the first rule what was held before it, and its results; by the
+/// second what is held after it, unless it moved entries. Only a RET that is executed ends a run.
 pub fn executed_are_counted()
     ensures counted { ExecutedAreCounted }
     ensures last { LastIsReturn }

@@ -3,9 +3,10 @@
 ghost use Rattle.std.specs.Prelude.{◌≡◌, ◌+◌, ◌<◌, ◌≤◌, List, [], ◌∷◌, length, max, reverse, IfOk};
 ghost use Rattle.vcode_base.specs.declared.limits.TheConstants.{MOST_BUDGET};
 ghost use Rattle.job_steps.specs.declared.flow.Flow.TheVariants.{Return};
-ghost use Rattle.job_steps.specs.Flows.{IsFlowOf};
+ghost use Rattle.job_steps.specs.Flows.{IsFlowOf, IsWithin};
 ghost use Rattle.vcode_base.specs.Kinds.{result_kinds};
-ghost use Rattle.job_steps.specs.Frames.{AreActive, IsSettled, StandAll, instruction_of, next_line};
+ghost use Rattle.job_steps.specs.Frames.{AreActive, Functions, IsInnermost, IsOfFunction, IsSettled, SettlesIn};
+ghost use Rattle.job_steps.specs.Frames.{StandAll, function_in, instruction_of, is_passed, is_passing, next_line};
 ghost use Rattle.job_steps.specs.Motions.{stack_after, depth_after};
 ghost use Rattle.job_steps.specs.States.{Active};
 ghost use Rattle.job_steps.specs.Steps.{memory_fault, next_item};
@@ -20,7 +21,7 @@ use crate::job::Job;
 use std::alloc::{AllocError, Allocator};
 use std::marker::Model;
 use vcode_base::{Limits, MemoryFault, Op};
-use vcode_reader::{CodeLine, Program};
+use vcode_reader::{CodeLine, Function, Program};
 
 /// The place of a job in its run: the cells of its stack, each of which names the vector of an entry; the
 /// frames of its active calls; how many instructions it executed, and the most words that it held and
@@ -123,32 +124,42 @@ impl<C: Copy, A: Allocator> Track<C, A> {
         self.cells.as_slice()
     }
 
-    /// The line of the next instruction in the job's program. Some call has to be active, and the track settled.
-    #[tactic(auto, using(crate::proofs::Following::of_next_lines))]
+    /// The function of the innermost call. Some call has to be active.
+    #[tactic(auto, using(crate::proofs::Following::of_functions))]
     #[inline(always)]
-    pub fn line<'a>(&self, program: &'a Program<A>) -> CodeLine<'a>
-        requires active { AreActive program.now.functions self.now.frames }
-        requires settled { IsSettled program.now.functions self.now.frames }
-        ensures line { (call : Active) (outer : List Active)
-            → StandAll program.now.functions self.now.frames (call ∷ outer) → result ≡ next_line call }
-        ensures item { (call : Active) (outer : List Active)
-            → StandAll program.now.functions self.now.frames (call ∷ outer)
-            → next_item call ≡ instruction_of result }
+    pub fn function<'a>(&self, program: &'a Program<A>) -> &'a Function<A>
+        requires { AreActive program.now.functions self.now.frames }
+        ensures { IsInnermost program.now.functions self.now.frames result.now }
     {
-        self.frames.innermost().line(program)
+        self.frames.innermost().function(program)
     }
 
-    /// Passes over each `ELSE` and `ENDIF` before the line of the next instruction, so that the track is settled. Some
-    /// call has to be active.
+    /// The line at which the innermost call goes on, which is of this function. In a track that is settled that is the
+    /// line of the next instruction; else it is an `ELSE` or an `ENDIF` before it.
+    #[tactic(auto, using(crate::proofs::Following::of_next_lines))]
     #[inline(always)]
-    pub fn settle(&mut self, program: &Program<A>)
-        requires { AreActive program.now.functions self.old.frames }
-        ensures same { self.new ≡ record self.old { frames = self.new.frames } }
-        ensures stand { (calls : List Active) → StandAll program.now.functions self.old.frames calls
-            → StandAll program.now.functions self.new.frames calls }
-        ensures settled { IsSettled program.now.functions self.new.frames }
+    pub fn line<'a>(&self, function: &'a Function<A>) -> CodeLine<'a>
+        requires { (functions : Functions) × IsOfFunction functions self.now.frames function.now }
+        ensures line { (functions : Functions) (call : Active) (outer : List Active)
+            → IsInnermost functions self.now.frames function.now → IsSettled functions self.now.frames
+            → StandAll functions self.now.frames (call ∷ outer) → result ≡ next_line call }
+        ensures item { (functions : Functions) (call : Active) (outer : List Active)
+            → IsInnermost functions self.now.frames function.now → IsSettled functions self.now.frames
+            → StandAll functions self.now.frames (call ∷ outer) → next_item call ≡ instruction_of result }
+        ensures passed { is_passed result.item ≡ is_passing function.now self.now.frames }
     {
-        settle(&mut self.frames, program);
+        self.frames.innermost().line(function)
+    }
+
+    /// Passes over each `ELSE` and `ENDIF` before the line of the next instruction, which is of this function: that of
+    /// the innermost call. The track is settled then.
+    #[inline(always)]
+    pub fn settle(&mut self, function: &Function<A>)
+        requires { (functions : Functions) × IsInnermost functions self.old.frames function.now }
+        ensures same { self.new ≡ record self.old { frames = self.new.frames } }
+        ensures settles { SettlesIn function.now self.old.frames self.new.frames }
+    {
+        settle(&mut self.frames, function);
     }
 
     /// The first limit that an instruction would pass, given that `words` words are held and needed: that of words,
@@ -178,6 +189,7 @@ impl<C: Copy, A: Allocator> Track<C, A> {
         requires settled { IsSettled (functions_of job.now.verified) self.old.frames }
         ensures advances { Advances job.now.verified op flow results.now words self.old self.new }
         ensures goes_on { (flow ≡ Return → ⊥) → 0 < length self.new.frames }
+        ensures stays { IsWithin op → function_in self.new.frames ≡ function_in self.old.frames }
     {
         replace(&mut self.cells, op, results);
         follow(&mut self.frames, job, flow);

@@ -8,8 +8,8 @@ execute-requires-clause-flying g c =
     let can = c.requires.can in
     rw (← c.self.view_is) at (is_flying _ _ _ _ can.shows can.live c.requires.goes_on)
 
-pub returns : goal.returns
-returns g c =
+pub returns-clause-steps : goal.returns-clause-steps
+returns-clause-steps g c =
     took c.reached.ensures c.end_is_own.ensures _ _ _ _ _ c.requires.can c.requires.goes_on (record
     { status = c.self.inside.status; trace = c.execute.new.track; outcome = c.self.inside.outcome })
     (ap (λ (s : SlotState). s.status) c.self.view_is ∙ c.requires.can.live)

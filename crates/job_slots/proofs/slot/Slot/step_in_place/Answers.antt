@@ -19,8 +19,8 @@ execute_in_place-requires-clause-flying g c =
 
 -- ---- the instruction is executed
 
-pub returns-in-Ok : goal.returns-in-Ok
-returns-in-Ok g c =
+pub returns-in-Ok-clause-steps : goal.returns-in-Ok-clause-steps
+returns-in-Ok-clause-steps g c =
     took c.reached.ensures c.end_is_own.ensures _ _ _ _ _ c.requires.can c.requires.goes_on (record
     { status = c.self.inside.status; trace = c.execute_in_place.new.track; outcome = c.self.inside.outcome })
     (ap (λ (s : SlotState). s.status) c.self.view_is ∙ c.requires.can.live)
@@ -58,8 +58,9 @@ end-requires-clause-ending g c =
     let at = (goal.at.end-requires-clause-ending g c).In-Err in
     rw (← same_slot g at) at (ends g at).is
 
-pub returns-in-Err : goal.returns-in-Err
-returns-in-Err g c =
-    ended_by _ _ _ _ _ _ _ _ (ends g (goal.at.returns-in-Err g c).In-Err) c.end.ensures.ended c.end.ensures.shows
+pub returns-in-Err-clause-steps : goal.returns-in-Err-clause-steps
+returns-in-Err-clause-steps g c =
+    let ends = ends g (goal.at.returns-in-Err-clause-steps g c).In-Err in
+    ended_by _ _ _ _ _ _ _ _ ends c.end.ensures.ended c.end.ensures.shows
     ((c.changes_join.ensures c.args.turn.number).both c.args.blocks.now c.execute_in_place.new.blocks c.end.new.blocks
     c.in-Err.ensures.kept.others c.end.ensures.others)
